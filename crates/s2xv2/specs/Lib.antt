@@ -1,0 +1,9 @@
+pub mod Table144b
+pub mod Table144c
+pub mod Default
+pub mod Options
+pub mod Answer
+pub mod Read
+pub mod Encode
+pub mod ListA
+pub mod Length

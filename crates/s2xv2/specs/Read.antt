@@ -1,0 +1,246 @@
+-- What a body reads as. `Present` says which parts the core asks for (`presentIn`); `streamEnd` .. `bodySize` say where each part ends;
+-- `needs` is the list of parts with the ends that the body has to reach; `recordOf` is the record that it holds, `readOf` the answer and
+-- the record shown, `tailOf` the tail. A part that is not there ends where the part before it ends. Assumes nothing.
+use Prim.Native.Nat.{ℕ, _+_}
+use mathlib.Core.List.{List, [], _∷_, _++_}
+use mathlib.Core.Bool.{Bool}
+use lib.ListN.{length, drop, getD}
+use lib.Dec.{eqb, ltb}
+use Rattle.wire.specs.Flags.{when, isOne, and}
+use Rattle.wire.specs.Widths.{size, cut, give, read}
+use Rattle.s2xv2.specs.Table144b as T
+use Rattle.s2xv2.specs.Table144c.{modeOf, hasSelector, hasTimeslice, hasSuperframe}
+use Rattle.s2xv2.specs.Default.{defaultRecord}
+use Rattle.s2xv2.specs.Options.{someBoolIf, some8If, some32If, someSuperframeIf}
+use Rattle.s2xv2.specs.Answer.{saturated}
+use Rattle.s2xv2.specs.declared.record.S2Xv2SatelliteDeliverySystem.{S2Xv2SatelliteDeliverySystem}
+use Rattle.s2xv2.specs.declared.superframe.S2Xv2Superframe.{S2Xv2Superframe}
+use Rattle.s2xv2.specs.declared.superframe.OptionSuperframe.{OptionSuperframe}
+use Rattle.s2xv2.specs.declared.option.OptionU8.{OptionU8}
+use Rattle.s2xv2.specs.declared.option.OptionU32.{OptionU32}
+
+-- ---- which parts are there
+
+pub record Present : Type 0 where
+  pub stream : Bool
+  pub scrambling : Bool
+  pub timeslice : Bool
+  pub bond : Bool
+  pub superframe : Bool
+
+-- .. as the values of the core say
+abbrev pub presentFrom : List ℕ → Present
+presentFrom vs =
+    give T.core (λ _ mode flag _ _ _ _ bond _ top _ _ _ _ _. record {
+      stream = isOne flag;
+      scrambling = and (hasSelector (modeOf mode)) (isOne top);
+      timeslice = hasTimeslice (modeOf mode);
+      bond = eqb bond 1;
+      superframe = hasSuperframe (modeOf mode);
+    }) vs
+
+unfoldable pub presentIn : List ℕ → Present
+presentIn s = presentFrom (cut s 0 T.core)
+
+-- ---- where each part ends
+
+-- so many bytes, if the part is there
+abbrev pub only : Bool → ℕ → ℕ
+only there n = when there n 0
+
+abbrev pub streamEnd : Present → ℕ
+streamEnd k = size T.core + only (k .stream) (size T.streamId)
+
+abbrev pub scramblingEnd : Present → ℕ
+scramblingEnd k = streamEnd k + only (k .scrambling) (size T.scrambling)
+
+abbrev pub timesliceEnd : Present → ℕ
+timesliceEnd k = scramblingEnd k + only (k .timeslice) (size T.timeslice)
+
+-- num_channel_bonds_minus_one is 1: there is a second id
+abbrev pub hasSecond : List ℕ → ℕ → Bool
+hasSecond s p = read T.bondHeader s p (λ _ less. isOne less)
+
+-- the header of the bonds, the first id, and the second
+abbrev pub headerEnd : Present → ℕ
+headerEnd k = timesliceEnd k + only (k .bond) (size T.bondHeader)
+
+abbrev pub firstIdEnd : Present → ℕ
+firstIdEnd k = timesliceEnd k + only (k .bond) (size (T.bondHeader ++ T.bondId))
+
+abbrev pub bondSize : Bool → ℕ
+bondSize second = when second (size (T.bondHeader ++ T.bondId ++ T.bondId)) (size (T.bondHeader ++ T.bondId))
+
+abbrev pub bondEnd : List ℕ → Present → ℕ
+bondEnd s k = timesliceEnd k + only (k .bond) (bondSize (hasSecond s (timesliceEnd k)))
+
+-- beam_hopping_time_plan_selector is set: there is a plan id
+abbrev pub hasPlan : List ℕ → ℕ → Bool
+hasPlan s p = read T.superframe s p (λ _ _ hopping _ _ _ _. isOne hopping)
+
+-- the block without a plan id; the plan id; the last byte behind it
+abbrev pub superframeEnd : List ℕ → Present → ℕ
+superframeEnd s k = bondEnd s k + only (k .superframe) (size (T.superframe ++ T.superframeEnd))
+
+abbrev pub planSize : Bool → ℕ
+planSize plan = when plan (size (T.superframe ++ T.plan)) (size (T.superframe ++ T.superframeEnd))
+
+abbrev pub planEnd : List ℕ → Present → ℕ
+planEnd s k = bondEnd s k + only (k .superframe) (planSize (hasPlan s (bondEnd s k)))
+
+abbrev pub blockSize : Bool → ℕ
+blockSize plan = when plan (size (T.superframe ++ T.plan ++ T.superframeEnd)) (size (T.superframe ++ T.superframeEnd))
+
+abbrev pub blockEnd : List ℕ → Present → ℕ
+blockEnd s k = bondEnd s k + only (k .superframe) (blockSize (hasPlan s (bondEnd s k)))
+
+-- THE SIZE that mode, flags and bond count dictate
+unfoldable pub bodySize : List ℕ → ℕ
+bodySize s = blockEnd s (presentIn s)
+
+-- ---- what is missing
+
+-- the place of a part in answer 1, and the end that the body has to reach for it
+pub record Need : Type 0 where
+  pub place : ℕ
+  pub need : ℕ
+
+infixr 90 _to_
+abbrev pub _to_ : ℕ → ℕ → Need
+place to need = record { place = place; need = need }
+
+-- the parts in wire order
+abbrev pub needs : List ℕ → Present → List Need
+needs s k =
+    1 to size T.core
+    ∷ 2 to streamEnd k
+    ∷ 3 to scramblingEnd k
+    ∷ 4 to timesliceEnd k
+    ∷ 5 to headerEnd k
+    ∷ 6 to firstIdEnd k
+    ∷ 6 to bondEnd s k
+    ∷ 7 to superframeEnd s k
+    ∷ 8 to planEnd s k
+    ∷ 9 to blockEnd s k
+    ∷ []
+
+-- ---- the record
+
+-- the superframe block of its first fields, the plan id, and the fields of its last byte
+abbrev pub superframeFrom : List ℕ → OptionU32 → List ℕ → S2Xv2Superframe
+superframeFrom vs plan ws =
+    give T.superframe (λ sosf selector hopping reserved reference nibble payload. give T.superframeEnd (λ pilots pli. record {
+      «sosf_wh_sequence_number» = sosf;
+      «sffi_selector» = isOne selector;
+      «beam_hopping_time_plan_selector» = isOne hopping;
+      «reserved_zero_future_use_2» = reserved;
+      «reference_scrambling_index» = reference;
+      sffi = some8If (isOne selector) nibble;
+      «reserved_zero_future_use_4» = when (isOne selector) 0 nibble;
+      «payload_scrambling_index» = payload;
+      «beamhopping_time_plan_id» = plan;
+      «superframe_pilots_wh_sequence_number» = pilots;
+      «postamble_pli» = pli;
+    }) ws) vs
+
+-- the block that starts with byte p, with or without a plan id
+abbrev pub planAt : List ℕ → ℕ → Bool → OptionU32
+planAt s p plan = some32If plan (read T.plan s (p + size T.superframe) (λ id. id))
+
+unfoldable pub superframeAt : List ℕ → ℕ → Bool → S2Xv2Superframe
+superframeAt s p plan =
+    superframeFrom (cut s p T.superframe) (planAt s p plan)
+    (cut s (p + when plan (size (T.superframe ++ T.plan)) (size T.superframe)) T.superframeEnd)
+
+-- the other parts, that start with byte p if they are there
+abbrev pub byteAt : List ℕ → ℕ → Bool → OptionU8
+byteAt s p there = some8If there (read T.streamId s p (λ v. v))
+
+abbrev pub reserved6At : List ℕ → ℕ → Bool → ℕ
+reserved6At s p there = only there (read T.scrambling s p (λ reserved _. reserved))
+
+abbrev pub indexAt : List ℕ → ℕ → Bool → OptionU32
+indexAt s p there = some32If there (read T.scrambling s p (λ _ index. index))
+
+abbrev pub reserved7At : List ℕ → ℕ → Bool → ℕ
+reserved7At s p there = only there (read T.bondHeader s p (λ reserved _. reserved))
+
+abbrev pub countAt : List ℕ → ℕ → Bool → ℕ
+countAt s p there = only there (when (hasSecond s p) 2 1)
+
+abbrev pub firstIdAt : List ℕ → ℕ → Bool → ℕ
+firstIdAt s p there = only there (read T.bondId s (p + size T.bondHeader) (λ id. id))
+
+abbrev pub secondIdAt : List ℕ → ℕ → Bool → ℕ
+secondIdAt s p there = only (and there (hasSecond s p)) (read T.bondId s (p + size (T.bondHeader ++ T.bondId)) (λ id. id))
+
+-- the record of the core's values and of what the other parts hold
+abbrev pub recordFrom : List ℕ → OptionU8 → ℕ → OptionU32 → OptionU8 → ℕ → ℕ → ℕ → ℕ → OptionSuperframe → S2Xv2SatelliteDeliverySystem
+recordFrom vs stream reserved6 index timeslice reserved7 count first second superframe =
+    give T.core (λ id mode flag rollOff reserved2 reference version bond polarization top tsgs profiles satellite frequency rate. record {
+      «delivery_system_id» = id;
+      «s2xv2_mode» = modeOf mode;
+      «multiple_input_stream_flag» = isOne flag;
+      «roll_off» = rollOff;
+      «reserved_zero_future_use_2» = reserved2;
+      «ncr_reference» = isOne reference;
+      «ncr_version» = isOne version;
+      «channel_bond» = bond;
+      polarization = polarization;
+      «scrambling_sequence_selector» = someBoolIf (hasSelector (modeOf mode)) (isOne top);
+      «reserved_zero_future_use_1» = when (hasSelector (modeOf mode)) 0 top;
+      «ts_gs_s2x_mode» = tsgs;
+      «receiver_profiles» = profiles;
+      «satellite_id» = satellite;
+      frequency = frequency;
+      «symbol_rate» = rate;
+      «input_stream_identifier» = stream;
+      «reserved_zero_future_use_6» = reserved6;
+      «scrambling_sequence_index» = index;
+      «timeslice_number» = timeslice;
+      «reserved_zero_future_use_7» = reserved7;
+      «secondary_delivery_system_ids» = first ∷ second ∷ [];
+      «num_channel_bonds» = count;
+      superframe = superframe;
+    }) vs
+
+unfoldable pub recordAt : List ℕ → Present → S2Xv2SatelliteDeliverySystem
+recordAt s k =
+    recordFrom (cut s 0 T.core)
+    (byteAt s (size T.core) (k .stream))
+    (reserved6At s (streamEnd k) (k .scrambling)) (indexAt s (streamEnd k) (k .scrambling))
+    (byteAt s (scramblingEnd k) (k .timeslice))
+    (reserved7At s (timesliceEnd k) (k .bond)) (countAt s (timesliceEnd k) (k .bond))
+    (firstIdAt s (timesliceEnd k) (k .bond)) (secondIdAt s (timesliceEnd k) (k .bond))
+    (someSuperframeIf (k .superframe) (superframeAt s (bondEnd s k) (hasPlan s (bondEnd s k))))
+
+-- ---- the answer
+
+-- the answer's numbers, and the record shown
+pub record Reading : Type 0 where
+  pub told : List ℕ
+  pub body : S2Xv2SatelliteDeliverySystem
+
+abbrev pub refusal : List ℕ → Reading
+refusal numbers = record { told = numbers; body = defaultRecord }
+
+-- accepted: the tail starts where the last part ends
+abbrev pub accepted : List ℕ → Present → Reading
+accepted s k = record { told = 0 ∷ blockEnd s k ∷ []; body = recordAt s k }
+
+-- a body of `have` bytes: refused at the first part whose end it does not reach, and read as `whole` if there is none
+abbrev pub missing : ℕ → List Need → Reading → Reading
+missing have [] whole = whole
+missing have (n ∷ ns) whole = when (ltb have (n .need)) (refusal (1 ∷ n .place ∷ n .need ∷ have ∷ [])) (missing have ns whole)
+
+-- what the reader answers: 2, then 1 in wire order
+unfoldable pub readOf : List ℕ → Reading
+readOf s = when (ltb 4096 (length s)) (refusal (2 ∷ saturated (length s) ∷ [])) (missing (length s) (needs s (presentIn s)) (accepted s (presentIn s)))
+
+-- the number of an answer
+abbrev pub numberOf : List ℕ → ℕ
+numberOf told = getD told 0 0
+
+-- what is left behind the last part of an accepted body; nothing of a refused one
+abbrev pub tailOf : List ℕ → List ℕ
+tailOf s = when (eqb (numberOf (readOf s .told)) 0) (drop (getD (readOf s .told) 1 0) s) []

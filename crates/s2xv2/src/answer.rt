@@ -1,0 +1,27 @@
+// What a call answers. `specs/Answer.antt` gives the number of each answer and the numbers that it tells.
+
+// Why a call was refused.
+pub enum Refusal {
+    // The body ends inside a part: which one, where that part ends, and how long the body is.
+    Short { place: u8, need: usize, have: usize },
+    // A body or an encoding of more than 4,096 bytes: its length, or 65,535 where it is above that.
+    Long { length: u16 },
+    // A record that contradicts itself: the first place of list A.
+    Inconsistent { place: u8 },
+    // A value that the wire cannot carry: the first place of list B.
+    Field { place: u8 },
+    // An output buffer below the length: the length, and the buffer's.
+    Room { need: usize, have: usize },
+    // A slot of a wrong size or form.
+    Slot,
+    // A descriptor that is larger than the slot, or exactly one byte smaller: its size.
+    NoFit { size: usize },
+    // A step on a slot of another size than at begin, or of a job whose numbers no begin and steps could give.
+    OtherSize,
+}
+
+// The answer of a call whose result is a number: where the tail starts, or a length.
+pub enum Answer {
+    Accepted(usize),
+    Refused(Refusal),
+}

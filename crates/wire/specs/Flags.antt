@@ -1,0 +1,32 @@
+-- Flags: `when` picks by one, `bit` and `isOne` go between a flag and a bit, `and`, `not`, `differ` join them. Assumes nothing.
+use Prim.Native.Nat.{ℕ}
+use mathlib.Core.Bool.{Bool, true, false}
+use lib.Dec.{eqb}
+
+-- a where the flag is set, and c where it is clear
+abbrev pub when : {X : Type 0} → Bool → X → X → X
+when true a c = a
+when false a c = c
+
+-- a flag as a bit, and a bit as a flag
+abbrev pub bit : Bool → ℕ
+bit true = 1
+bit false = 0
+
+abbrev pub isOne : ℕ → Bool
+isOne n = eqb n 1
+
+-- both are set
+abbrev pub and : Bool → Bool → Bool
+and true b = b
+and false b = false
+
+-- it is clear
+abbrev pub not : Bool → Bool
+not true = false
+not false = true
+
+-- one is set and the other is not
+abbrev pub differ : Bool → Bool → Bool
+differ true b = not b
+differ false b = b

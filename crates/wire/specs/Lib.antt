@@ -1,0 +1,4 @@
+pub mod Flags
+pub mod Bits
+pub mod Widths
+pub mod Parts
