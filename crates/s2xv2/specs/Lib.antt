@@ -7,3 +7,6 @@ pub mod Read
 pub mod Encode
 pub mod ListA
 pub mod Length
+pub mod ListB
+pub mod Write
+pub mod Carried
