@@ -1,6 +1,7 @@
--- What a body reads as. `Present` says which parts the core asks for (`presentIn`); `streamEnd` .. `bodySize` say where each part ends;
--- `needs` is the list of parts with the ends that the body has to reach; `recordOf` is the record that it holds, `readOf` the answer and
--- the record shown, `tailOf` the tail. A part that is not there ends where the part before it ends. Assumes nothing.
+-- What a body reads as. `presentIn` says which parts its core asks for; `streamEnd` to `blockEnd` say where each part ends, and
+-- `bodySize` is the last; `needs` lists the parts with the ends that the body has to reach; `recordAt` is the record that it holds,
+-- `readTold` the answer in numbers, `readOf` both as the reader shows them, and `tailOf` the tail.
+-- A part that is not there ends where the part before it ends, so that it is never the first that is missing. Assumes nothing.
 use Prim.Native.Nat.{ℕ, _+_}
 use mathlib.Core.List.{List, [], _∷_, _++_}
 use mathlib.Core.Bool.{Bool}
@@ -13,6 +14,7 @@ use Rattle.s2xv2.specs.Table144c.{modeOf, hasSelector, hasTimeslice, has
 use Rattle.s2xv2.specs.Default.{defaultRecord}
 use Rattle.s2xv2.specs.Options.{someBoolIf, some8If, some32If, someSuperframeIf}
 use Rattle.s2xv2.specs.Answer.{saturated}
+use Rattle.s2xv2.specs.declared.present.Present.{Present}
 use Rattle.s2xv2.specs.declared.record.S2Xv2SatelliteDeliverySystem.{S2Xv2SatelliteDeliverySystem}
 use Rattle.s2xv2.specs.declared.superframe.S2Xv2Superframe.{S2Xv2Superframe}
 use Rattle.s2xv2.specs.declared.superframe.OptionSuperframe.{OptionSuperframe}
@@ -21,14 +23,7 @@ use Rattle.s2xv2.specs.declared.option.OptionU32.{OptionU32}
 
 -- ---- which parts are there
 
-pub record Present : Type 0 where
-  pub stream : Bool
-  pub scrambling : Bool
-  pub timeslice : Bool
-  pub bond : Bool
-  pub superframe : Bool
-
--- .. as the values of the core say
+-- as the values of the core say
 abbrev pub presentFrom : List ℕ → Present
 presentFrom vs =
     give T.core (λ _ mode flag _ _ _ _ bond _ top _ _ _ _ _. record {
@@ -216,31 +211,28 @@ recordAt s k =
 
 -- ---- the answer
 
--- the answer's numbers, and the record shown
-pub record Reading : Type 0 where
-  pub told : List ℕ
-  pub body : S2Xv2SatelliteDeliverySystem
-
-abbrev pub refusal : List ℕ → Reading
-refusal numbers = record { told = numbers; body = defaultRecord }
-
--- accepted: the tail starts where the last part ends
-abbrev pub accepted : List ℕ → Present → Reading
-accepted s k = record { told = 0 ∷ blockEnd s k ∷ []; body = recordAt s k }
-
--- a body of `have` bytes: refused at the first part whose end it does not reach, and read as `whole` if there is none
-abbrev pub missing : ℕ → List Need → Reading → Reading
-missing have [] whole = whole
-missing have (n ∷ ns) whole = when (ltb have (n .need)) (refusal (1 ∷ n .place ∷ n .need ∷ have ∷ [])) (missing have ns whole)
-
--- what the reader answers: 2, then 1 in wire order
-unfoldable pub readOf : List ℕ → Reading
-readOf s = when (ltb 4096 (length s)) (refusal (2 ∷ saturated (length s) ∷ [])) (missing (length s) (needs s (presentIn s)) (accepted s (presentIn s)))
-
 -- the number of an answer
 abbrev pub numberOf : List ℕ → ℕ
 numberOf told = getD told 0 0
 
+-- for a body of `have` bytes: answer 1 at the first part whose end it does not reach, and `otherwise` if there is none
+abbrev pub shortTold : ℕ → List Need → List ℕ → List ℕ
+shortTold have [] otherwise = otherwise
+shortTold have (n ∷ ns) otherwise = when (ltb have (n .need)) (1 ∷ n .place ∷ n .need ∷ have ∷ []) (shortTold have ns otherwise)
+
+-- 2, then 1 in wire order, then accepted: the tail starts where the last part ends
+unfoldable pub readTold : List ℕ → List ℕ
+readTold s =
+    when (ltb 4096 (length s)) (2 ∷ saturated (length s) ∷ []) (shortTold (length s) (needs s (presentIn s)) (0 ∷ blockEnd s (presentIn s) ∷ []))
+
+-- what the reader answers: the numbers told, and the record shown
+pub record Reading : Type 0 where
+  pub told : List ℕ
+  pub body : S2Xv2SatelliteDeliverySystem
+
+abbrev pub readOf : List ℕ → Reading
+readOf s = record { told = readTold s; body = when (eqb (numberOf (readTold s)) 0) (recordAt s (presentIn s)) defaultRecord }
+
 -- what is left behind the last part of an accepted body; nothing of a refused one
 abbrev pub tailOf : List ℕ → List ℕ
-tailOf s = when (eqb (numberOf (readOf s .told)) 0) (drop (getD (readOf s .told) 1 0) s) []
+tailOf s = when (eqb (numberOf (readTold s)) 0) (drop (blockEnd s (presentIn s)) s) []

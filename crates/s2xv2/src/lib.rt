@@ -4,5 +4,6 @@
 pub mod answer;
 pub mod mode;
 pub mod option;
+pub mod present;
 pub mod record;
 pub mod superframe;
