@@ -60,9 +60,9 @@ carried r = record {
   «timeslice_number» = r .«timeslice_number»;
   «reserved_zero_future_use_7» = only (eqb (r .«channel_bond») 1) (r .«reserved_zero_future_use_7»);
   «secondary_delivery_system_ids» =
-    carriedId 0 (r .«num_channel_bonds») (r .«secondary_delivery_system_ids»)
-    ∷ carriedId 1 (r .«num_channel_bonds») (r .«secondary_delivery_system_ids»)
-    ∷ [];
+      carriedId 0 (r .«num_channel_bonds») (r .«secondary_delivery_system_ids»)
+      ∷ carriedId 1 (r .«num_channel_bonds») (r .«secondary_delivery_system_ids»)
+      ∷ [];
   «num_channel_bonds» = r .«num_channel_bonds»;
   superframe = carriedSuperframe (r .superframe);
 }

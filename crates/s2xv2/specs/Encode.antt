@@ -92,8 +92,8 @@ blockParts f =
     T.superframe ⦂ superframeValues f
     ∷ (planParts (f .«beam_hopping_time_plan_selector») (f .«beamhopping_time_plan_id») ++ (T.superframeEnd ⦂ superframeEndValues f ∷ []))
 
-abbrev pub superframeSize : S2Xv2Superframe → ℕ
-superframeSize f = sizes (blockParts f)
+abbrev pub blockLength : S2Xv2Superframe → ℕ
+blockLength f = sizes (blockParts f)
 
 unfoldable pub superframeParts : OptionSuperframe → List Part
 superframeParts (OS.Some f) = blockParts f

@@ -1,6 +1,6 @@
--- What a body reads as. `presentIn` says which parts its core asks for; `streamEnd` to `blockEnd` say where each part ends, and
--- `bodySize` is the last; `needs` lists the parts with the ends that the body has to reach; `recordAt` is the record that it holds,
--- `readTold` the answer in numbers, `readOf` both as the reader shows them, and `tailOf` the tail.
+-- What a body reads as. `presentIn` says which parts its core asks for; `streamEnd` to `superframeEnd` say where each part ends (all of
+-- them in `endsOf`), and `bodySize` is the last; `needs` lists the parts with the ends that the body has to reach; `recordIn` is the
+-- record that it holds, `readTold` the answer in numbers, `readOf` both as the reader shows them, and `tailOf` the tail.
 -- A part that is not there ends where the part before it ends, so that it is never the first that is missing. Assumes nothing.
 use Prim.Native.Nat.{ℕ, _+_}
 use mathlib.Core.List.{List, [], _∷_, _++_}
@@ -14,7 +14,8 @@ use Rattle.s2xv2.specs.Table144c.{modeOf, hasSelector, hasTimeslice, has
 use Rattle.s2xv2.specs.Default.{defaultRecord}
 use Rattle.s2xv2.specs.Options.{someBoolIf, some8If, some32If, someSuperframeIf}
 use Rattle.s2xv2.specs.Answer.{saturated}
-use Rattle.s2xv2.specs.declared.present.Present.{Present}
+use Rattle.s2xv2.specs.declared.layout.Present.{Present}
+use Rattle.s2xv2.specs.declared.layout.Ends.{Ends}
 use Rattle.s2xv2.specs.declared.record.S2Xv2SatelliteDeliverySystem.{S2Xv2SatelliteDeliverySystem}
 use Rattle.s2xv2.specs.declared.superframe.S2Xv2Superframe.{S2Xv2Superframe}
 use Rattle.s2xv2.specs.declared.superframe.OptionSuperframe.{OptionSuperframe}
@@ -56,13 +57,6 @@ timesliceEnd k = scramblingEnd k + only (k .timeslice) (size T.timeslice)
 abbrev pub hasSecond : List ℕ → ℕ → Bool
 hasSecond s p = read T.bondHeader s p (λ _ less. isOne less)
 
--- the header of the bonds, the first id, and the second
-abbrev pub headerEnd : Present → ℕ
-headerEnd k = timesliceEnd k + only (k .bond) (size T.bondHeader)
-
-abbrev pub firstIdEnd : Present → ℕ
-firstIdEnd k = timesliceEnd k + only (k .bond) (size (T.bondHeader ++ T.bondId))
-
 abbrev pub bondSize : Bool → ℕ
 bondSize second = when second (size (T.bondHeader ++ T.bondId ++ T.bondId)) (size (T.bondHeader ++ T.bondId))
 
@@ -73,25 +67,34 @@ bondEnd s k = timesliceEnd k + only (k .bond) (bondSize (hasSecond s (timesliceE
 abbrev pub hasPlan : List ℕ → ℕ → Bool
 hasPlan s p = read T.superframe s p (λ _ _ hopping _ _ _ _. isOne hopping)
 
--- the block without a plan id; the plan id; the last byte behind it
-abbrev pub superframeEnd : List ℕ → Present → ℕ
-superframeEnd s k = bondEnd s k + only (k .superframe) (size (T.superframe ++ T.superframeEnd))
+abbrev pub superframeSize : Bool → ℕ
+superframeSize plan = when plan (size (T.superframe ++ T.plan ++ T.superframeEnd)) (size (T.superframe ++ T.superframeEnd))
 
+abbrev pub superframeEnd : List ℕ → Present → ℕ
+superframeEnd s k = bondEnd s k + only (k .superframe) (superframeSize (hasPlan s (bondEnd s k)))
+
+-- how far the plan id goes; without one, as far as the block
 abbrev pub planSize : Bool → ℕ
 planSize plan = when plan (size (T.superframe ++ T.plan)) (size (T.superframe ++ T.superframeEnd))
 
-abbrev pub planEnd : List ℕ → Present → ℕ
-planEnd s k = bondEnd s k + only (k .superframe) (planSize (hasPlan s (bondEnd s k)))
-
-abbrev pub blockSize : Bool → ℕ
-blockSize plan = when plan (size (T.superframe ++ T.plan ++ T.superframeEnd)) (size (T.superframe ++ T.superframeEnd))
-
-abbrev pub blockEnd : List ℕ → Present → ℕ
-blockEnd s k = bondEnd s k + only (k .superframe) (blockSize (hasPlan s (bondEnd s k)))
+abbrev pub endsOf : List ℕ → Present → Ends
+endsOf s k = record {
+  stream = streamEnd k;
+  scrambling = scramblingEnd k;
+  timeslice = timesliceEnd k;
+  header = timesliceEnd k + only (k .bond) (size T.bondHeader);
+  «first_id» = timesliceEnd k + only (k .bond) (size (T.bondHeader ++ T.bondId));
+  second = hasSecond s (timesliceEnd k);
+  bond = bondEnd s k;
+  block = bondEnd s k + only (k .superframe) (size (T.superframe ++ T.superframeEnd));
+  plan = hasPlan s (bondEnd s k);
+  «plan_id» = bondEnd s k + only (k .superframe) (planSize (hasPlan s (bondEnd s k)));
+  superframe = superframeEnd s k;
+}
 
 -- THE SIZE that mode, flags and bond count dictate
 unfoldable pub bodySize : List ℕ → ℕ
-bodySize s = blockEnd s (presentIn s)
+bodySize s = superframeEnd s (presentIn s)
 
 -- ---- what is missing
 
@@ -105,18 +108,18 @@ abbrev pub _to_ : ℕ → ℕ → Need
 place to need = record { place = place; need = need }
 
 -- the parts in wire order
-abbrev pub needs : List ℕ → Present → List Need
-needs s k =
+abbrev pub needs : Ends → List Need
+needs e =
     1 to size T.core
-    ∷ 2 to streamEnd k
-    ∷ 3 to scramblingEnd k
-    ∷ 4 to timesliceEnd k
-    ∷ 5 to headerEnd k
-    ∷ 6 to firstIdEnd k
-    ∷ 6 to bondEnd s k
-    ∷ 7 to superframeEnd s k
-    ∷ 8 to planEnd s k
-    ∷ 9 to blockEnd s k
+    ∷ 2 to e .stream
+    ∷ 3 to e .scrambling
+    ∷ 4 to e .timeslice
+    ∷ 5 to e .header
+    ∷ 6 to e .«first_id»
+    ∷ 6 to e .bond
+    ∷ 7 to e .block
+    ∷ 8 to e .«plan_id»
+    ∷ 9 to e .superframe
     ∷ []
 
 -- ---- the record
@@ -160,14 +163,14 @@ indexAt s p there = some32If there (read T.scrambling s p (λ _ index. index))
 abbrev pub reserved7At : List ℕ → ℕ → Bool → ℕ
 reserved7At s p there = only there (read T.bondHeader s p (λ reserved _. reserved))
 
-abbrev pub countAt : List ℕ → ℕ → Bool → ℕ
-countAt s p there = only there (when (hasSecond s p) 2 1)
+abbrev pub countIf : Bool → Bool → ℕ
+countIf there second = only there (when second 2 1)
 
 abbrev pub firstIdAt : List ℕ → ℕ → Bool → ℕ
 firstIdAt s p there = only there (read T.bondId s (p + size T.bondHeader) (λ id. id))
 
-abbrev pub secondIdAt : List ℕ → ℕ → Bool → ℕ
-secondIdAt s p there = only (and there (hasSecond s p)) (read T.bondId s (p + size (T.bondHeader ++ T.bondId)) (λ id. id))
+abbrev pub secondIdAt : List ℕ → ℕ → Bool → Bool → ℕ
+secondIdAt s p there second = only (and there second) (read T.bondId s (p + size (T.bondHeader ++ T.bondId)) (λ id. id))
 
 -- the record of the core's values and of what the other parts hold
 abbrev pub recordFrom : List ℕ → OptionU8 → ℕ → OptionU32 → OptionU8 → ℕ → ℕ → ℕ → ℕ → OptionSuperframe → S2Xv2SatelliteDeliverySystem
@@ -199,15 +202,18 @@ recordFrom vs stream reserved6 index timeslice reserved7 count first second supe
       superframe = superframe;
     }) vs
 
-unfoldable pub recordAt : List ℕ → Present → S2Xv2SatelliteDeliverySystem
-recordAt s k =
+unfoldable pub recordAt : List ℕ → Present → Ends → S2Xv2SatelliteDeliverySystem
+recordAt s k e =
     recordFrom (cut s 0 T.core)
     (byteAt s (size T.core) (k .stream))
-    (reserved6At s (streamEnd k) (k .scrambling)) (indexAt s (streamEnd k) (k .scrambling))
-    (byteAt s (scramblingEnd k) (k .timeslice))
-    (reserved7At s (timesliceEnd k) (k .bond)) (countAt s (timesliceEnd k) (k .bond))
-    (firstIdAt s (timesliceEnd k) (k .bond)) (secondIdAt s (timesliceEnd k) (k .bond))
-    (someSuperframeIf (k .superframe) (superframeAt s (bondEnd s k) (hasPlan s (bondEnd s k))))
+    (reserved6At s (e .stream) (k .scrambling)) (indexAt s (e .stream) (k .scrambling))
+    (byteAt s (e .scrambling) (k .timeslice))
+    (reserved7At s (e .timeslice) (k .bond)) (countIf (k .bond) (e .second))
+    (firstIdAt s (e .timeslice) (k .bond)) (secondIdAt s (e .timeslice) (k .bond) (e .second))
+    (someSuperframeIf (k .superframe) (superframeAt s (e .bond) (e .plan)))
+
+abbrev pub recordIn : List ℕ → S2Xv2SatelliteDeliverySystem
+recordIn s = recordAt s (presentIn s) (endsOf s (presentIn s))
 
 -- ---- the answer
 
@@ -223,7 +229,7 @@ shortTold have (n ∷ ns) otherwise = when (ltb have (n .need)) (1 ∷ n .place 
 -- 2, then 1 in wire order, then accepted: the tail starts where the last part ends
 unfoldable pub readTold : List ℕ → List ℕ
 readTold s =
-    when (ltb 4096 (length s)) (2 ∷ saturated (length s) ∷ []) (shortTold (length s) (needs s (presentIn s)) (0 ∷ blockEnd s (presentIn s) ∷ []))
+    when (ltb 4096 (length s)) (2 ∷ saturated (length s) ∷ []) (shortTold (length s) (needs (endsOf s (presentIn s))) (0 ∷ bodySize s ∷ []))
 
 -- what the reader answers: the numbers told, and the record shown
 pub record Reading : Type 0 where
@@ -231,8 +237,8 @@ pub record Reading : Type 0 where
   pub body : S2Xv2SatelliteDeliverySystem
 
 abbrev pub readOf : List ℕ → Reading
-readOf s = record { told = readTold s; body = when (eqb (numberOf (readTold s)) 0) (recordAt s (presentIn s)) defaultRecord }
+readOf s = record { told = readTold s; body = when (eqb (numberOf (readTold s)) 0) (recordIn s) defaultRecord }
 
 -- what is left behind the last part of an accepted body; nothing of a refused one
 abbrev pub tailOf : List ℕ → List ℕ
-tailOf s = when (eqb (numberOf (readTold s)) 0) (drop (blockEnd s (presentIn s)) s) []
+tailOf s = when (eqb (numberOf (readTold s)) 0) (drop (bodySize s) s) []

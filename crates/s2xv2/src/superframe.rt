@@ -1,7 +1,7 @@
 // The superframe block, which Table 144b has in modes 4 and 5.
 ghost use mathlib.Core.Path.{_≡_};
 ghost use Rattle.s2xv2.specs.Default.{defaultSuperframe};
-ghost use Rattle.s2xv2.specs.Encode.{superframeSize};
+ghost use Rattle.s2xv2.specs.Encode.{blockLength};
 use crate::option::OptionU8;
 use crate::option::OptionU32;
 
@@ -57,7 +57,7 @@ impl S2Xv2Superframe {
 
     // How many bytes the block takes: 8, or 12 with a plan id.
     pub fn serialized_len(self) -> usize
-        ensures { λ r. ⌜ r ≡ superframeSize self ⌝ }
+        ensures { λ r. ⌜ r ≡ blockLength self ⌝ }
     {
         if self.beam_hopping_time_plan_selector {
             12

@@ -1,18 +1,18 @@
 // Numbers of several bytes, most significant first.
 ghost use mathlib.Core.Path.{_≡_};
 ghost use mathlib.Core.List.{[], _∷_};
-ghost use Rattle.wire.specs.Bits.{number};
+ghost use Rattle.wire.specs.Bits.{bits};
 
 // Three bytes as a number.
 pub fn be24(a: u8, b: u8, c: u8) -> u32
-    ensures { λ r. ⌜ r ≡ number (a ∷ b ∷ c ∷ []) 0 3 ⌝ }
+    ensures { λ r. ⌜ r ≡ bits (a ∷ b ∷ c ∷ []) 0 0 24 ⌝ }
 {
     (a as u32) * 65536 + (b as u32) * 256 + (c as u32)
 }
 
 // Four bytes as a number.
 pub fn be32(a: u8, b: u8, c: u8, d: u8) -> u32
-    ensures { λ r. ⌜ r ≡ number (a ∷ b ∷ c ∷ d ∷ []) 0 4 ⌝ }
+    ensures { λ r. ⌜ r ≡ bits (a ∷ b ∷ c ∷ d ∷ []) 0 0 32 ⌝ }
 {
     (a as u32) * 16777216 + (b as u32) * 65536 + (c as u32) * 256 + (d as u32)
 }

@@ -1,0 +1,123 @@
+-- Laws of the reader's answer: it is accepted where the body reaches every end, which it does where it reaches the last, and is refused
+-- by a number of its own everywhere else.
+-- Assumes nothing.
+use mathlib.Core.Path.{_≡_, refl, sym, ap, _∙_}
+use mathlib.Core.List.{List, [], _∷_}
+use mathlib.Core.Bool.{Bool, true, false}
+use Prim.Native.Nat.{ℕ, _+_, _≤_, _<_}
+use native.Mathlib.Omega.{arith}
+use native.Mathlib.Nat.{le-refl}
+use lib.ListN.{length, drop, getD}
+use lib.Dec.{ltb, eqb}
+use borrow.Author.Tests.{lt-ltb, le-ltb, ltb-true, ltb-false}
+use Rattle.wire.specs.Flags.{when, isOne, and}
+use Rattle.s2xv2.specs.Table144c.{modeOf, hasSelector, hasTimeslice, hasSuperframe}
+use Rattle.s2xv2.specs.Answer.{numbers, saturated}
+use Rattle.s2xv2.specs.Default.{defaultRecord}
+use Rattle.s2xv2.specs.Read.{only, presentIn, hasSecond, bondSize, bondEnd, hasPlan, superframeSize, planSize, superframeEnd, timesliceEnd, endsOf, bodySize, Need, needs, numberOf, shortTold, readTold, Reading, readOf, recordIn, tailOf}
+use Rattle.s2xv2.specs.declared.layout.Present.{Present}
+use Rattle.s2xv2.specs.declared.mode.S2Xv2Mode.{S2Xv2Mode}
+use Rattle.s2xv2.specs.declared.mode.S2Xv2Mode.the-variants as M
+use Rattle.s2xv2.specs.declared.answer.Refusal.{Refusal}
+use Rattle.s2xv2.specs.declared.answer.Refusal.the-variants as R
+
+-- ---- lists of needs
+
+-- n bytes reach every end of the list
+abbrev pub Reaches : ℕ → List Need → Type 0
+Reaches n [] = Unit
+Reaches n (m ∷ ms) = (m .need ≤ n) × Reaches n ms
+
+pub reaches-told : (n : ℕ) (ns : List Need) (o : List ℕ) → Reaches n ns → shortTold n ns o ≡ o
+reaches-told n [] o h = refl
+reaches-told n (m ∷ ms) o h = simp (le-ltb _ _ (h .0)) (reaches-told n ms o (h .1))
+
+pub told-reaches : (n : ℕ) (ns : List Need) (o : List ℕ) → numberOf (shortTold n ns o) ≡ 0 → Reaches n ns
+told-reaches n [] o e = tt
+told-reaches n (m ∷ ms) o e = go (ltb n (m .need)) refl e (told-reaches n ms o)
+  where
+    go : (c : Bool) → ltb n (m .need) ≡ c → numberOf (when c (1 ∷ m .place ∷ m .need ∷ n ∷ []) (shortTold n ms o)) ≡ 0
+        → (numberOf (shortTold n ms o) ≡ 0 → Reaches n ms) → Reaches n (m ∷ ms)
+    go true d z more = absurd (omega arith)
+    go false d z more = (ltb-false _ _ d, more z)
+
+-- ---- the ends are in order
+
+bond-order : (b d : Bool) → (only b 1 ≤ only b (bondSize d)) × (only b 5 ≤ only b (bondSize d))
+bond-order true true = (omega arith, omega arith)
+bond-order true false = (omega arith, omega arith)
+bond-order false d = (omega arith, omega arith)
+
+block-order : (b d : Bool) → (only b 8 ≤ only b (superframeSize d)) × (only b (planSize d) ≤ only b (superframeSize d))
+block-order true true = (omega arith, omega arith)
+block-order true false = (omega arith, omega arith)
+block-order false d = (omega arith, omega arith)
+
+pub reaches-all : (s : List ℕ) (k : Present) (n : ℕ) → superframeEnd s k ≤ n → Reaches n (needs (endsOf s k))
+reaches-all s k n h =
+    let f = bond-order (k .bond) (hasSecond s (timesliceEnd k)) in
+    let g = block-order (k .superframe) (hasPlan s (bondEnd s k)) in
+    (omega arith, (omega arith, (omega arith, (omega arith, (omega arith, (omega arith, (omega arith, (omega arith, (omega arith, (h, tt))))))))))
+
+pub core-first : (s : List ℕ) (k : Present) → 18 ≤ superframeEnd s k
+core-first s k = omega arith
+
+-- ---- the answer
+
+refused-number : (why : Refusal) → eqb (numberOf (numbers why)) 0 ≡ false
+refused-number (R.Short place need have) = refl
+refused-number (R.Long n) = refl
+refused-number (R.Inconsistent place) = refl
+refused-number (R.Field place) = refl
+refused-number (R.Room need have) = refl
+refused-number R.Slot = refl
+refused-number (R.NoFit size) = refl
+refused-number R.OtherSize = refl
+
+module _ (s : List ℕ) where
+  pub told-long : 4096 < length s → readTold s ≡ 2 ∷ saturated (length s) ∷ []
+  unfolding readTold
+  told-long h = simp (lt-ltb _ _ h)
+
+  -- within the limit, what is missing decides
+  pub told-within : length s ≤ 4096 → readTold s ≡ shortTold (length s) (needs (endsOf s (presentIn s))) (0 ∷ bodySize s ∷ [])
+  unfolding readTold
+  told-within h = simp (le-ltb _ _ h)
+
+  pub told-core : length s < 18 → readTold s ≡ 1 ∷ 1 ∷ 18 ∷ length s ∷ []
+  told-core h = told-within (omega arith) ∙ simp (lt-ltb _ _ h)
+
+  pub told-accepted : bodySize s ≤ length s → length s ≤ 4096 → readTold s ≡ 0 ∷ bodySize s ∷ []
+  unfolding bodySize
+  told-accepted e h = told-within h ∙ reaches-told (length s) (needs (endsOf s (presentIn s))) _ (reaches-all s (presentIn s) (length s) e)
+
+  -- what a body that is accepted reads as, and one that is refused
+  pub reads-accepted : bodySize s ≤ length s → length s ≤ 4096 → readOf s ≡ record { told = 0 ∷ bodySize s ∷ []; body = recordIn s }
+  reads-accepted e h = simp (told-accepted e h)
+
+  pub reads-refused : (why : Refusal) → numbers why ≡ readTold s → readOf s ≡ record { told = numbers why; body = defaultRecord }
+  reads-refused why e = simp (sym e, refused-number why)
+
+  -- accepted is only a body that reaches the size that it dictates, within the limit
+  pub accepted-reaches : numberOf (readTold s) ≡ 0 → (bodySize s ≤ length s) × (length s ≤ 4096)
+  unfolding bodySize
+  accepted-reaches z = go (ltb 4096 (length s)) refl
+    where
+      reached : Reaches (length s) (needs (endsOf s (presentIn s))) → superframeEnd s (presentIn s) ≤ length s
+      reached r = r .1 .1 .1 .1 .1 .1 .1 .1 .1 .0
+
+      go : (c : Bool) → ltb 4096 (length s) ≡ c → (superframeEnd s (presentIn s) ≤ length s) × (length s ≤ 4096)
+      go true e = let d : _≡_ {A = ℕ} 2 0 = ap numberOf (sym (told-long (ltb-true _ _ e))) ∙ z in absurd (omega arith)
+      go false e =
+          let h : length s ≤ 4096 = ltb-false _ _ e in
+          (reached (told-reaches (length s) (needs (endsOf s (presentIn s))) (0 ∷ bodySize s ∷ []) (ap numberOf (sym (told-within h)) ∙ z)), h)
+
+  -- the place that an accepted body tells is where its tail starts
+  pub accepted-tail : (t : ℕ) → 0 ∷ t ∷ [] ≡ readTold s → (bodySize s ≡ t) × (t ≤ length s) × (tailOf s ≡ drop t s)
+  accepted-tail t e =
+      let h = accepted-reaches (ap numberOf (sym e)) in
+      let d : bodySize s ≡ t = ap (λ (l : List ℕ). getD l 1 0) (sym (told-accepted (h .0) (h .1)) ∙ sym e) in
+      (d, rw (← d) (h .0), simp (sym e, d))
+
+  pub refused-tail : (why : Refusal) → numbers why ≡ readTold s → tailOf s ≡ []
+  refused-tail why e = simp (sym e, refused-number why)
