@@ -1,1 +1,5 @@
+pub mod Answers
 pub mod Reach
+pub mod Sizes
+pub mod Fields
+pub mod Cases

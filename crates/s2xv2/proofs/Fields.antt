@@ -1,0 +1,116 @@
+-- Where each field stands, by byte, bits before it, and width, as document 01 has it. The record's definition goes by the widths of Table
+-- 144b alone, so that the two descriptions hold each other. Reserved bits are among the fields, wherever the wire carries them.
+-- Assumes nothing.
+use mathlib.Core.Path.{_≡_, refl, sym, ap, _∙_}
+use mathlib.Core.List.{List, [], _∷_}
+use mathlib.Core.Bool.{Bool, true, false}
+use Prim.Native.Nat.{ℕ, _+_, _*_, _≤_}
+use lib.ListN.{getD}
+use lib.Dec.{eqb}
+use borrow.Author.Tests.{eqb-true}
+use Rattle.wire.specs.Flags.{when, isOne}
+use Rattle.wire.specs.Bits.{bits}
+use Rattle.s2xv2.specs.Table144c.{modeOf, codeOf, hasSelector}
+use Rattle.s2xv2.specs.Options.{isSomeSuperframe}
+use Rattle.s2xv2.specs.Read.{presentIn, streamEnd, timesliceEnd, bondEnd, superframeAt, recordAt, recordIn}
+use Rattle.s2xv2.specs.declared.option.OptionBool.the-variants as OB
+use Rattle.s2xv2.specs.declared.option.OptionU8.the-variants as O8
+use Rattle.s2xv2.specs.declared.option.OptionU32.the-variants as O32
+use Rattle.s2xv2.specs.declared.mode.S2Xv2Mode.the-variants as M
+
+-- a code has a mode, and the mode has the code
+pub code-mode : (n : ℕ) → codeOf (modeOf n) ≡ n
+unfolding modeOf
+code-mode n =
+    go (eqb n 0) (eqb n 1) (eqb n 2) (eqb n 3) (eqb n 4) (eqb n 5)
+    (eqb-true n 0) (eqb-true n 1) (eqb-true n 2) (eqb-true n 3) (eqb-true n 4) (eqb-true n 5)
+  where
+    go : (a b c d e f : Bool) → (a ≡ true → n ≡ 0) → (b ≡ true → n ≡ 1) → (c ≡ true → n ≡ 2) → (d ≡ true → n ≡ 3) → (e ≡ true → n ≡ 4) → (f ≡ true → n ≡ 5)
+        → codeOf (when a M.Reserved0 (when b M.S2X (when c M.S2XTimeSlicing (when d M.Reserved3 (when e M.S2XSuperframe (when f M.S2XSuperframeTimeSlicing (M.Reserved n))))))) ≡ n
+    go true b c d e f h₀ h₁ h₂ h₃ h₄ h₅ = sym (h₀ refl)
+    go false true c d e f h₀ h₁ h₂ h₃ h₄ h₅ = sym (h₁ refl)
+    go false false true d e f h₀ h₁ h₂ h₃ h₄ h₅ = sym (h₂ refl)
+    go false false false true e f h₀ h₁ h₂ h₃ h₄ h₅ = sym (h₃ refl)
+    go false false false false true f h₀ h₁ h₂ h₃ h₄ h₅ = sym (h₄ refl)
+    go false false false false false true h₀ h₁ h₂ h₃ h₄ h₅ = sym (h₅ refl)
+    go false false false false false false h₀ h₁ h₂ h₃ h₄ h₅ = refl
+
+module _ (s : List ℕ) where
+  -- The core, bytes 0 to 17.
+  pub core-fields :
+      (recordIn s .«delivery_system_id» ≡ bits s 0 0 32)
+      × (codeOf (recordIn s .«s2xv2_mode») ≡ bits s 4 0 4)
+      × (recordIn s .«multiple_input_stream_flag» ≡ isOne (bits s 4 4 1))
+      × (recordIn s .«roll_off» ≡ bits s 4 5 3)
+      × (recordIn s .«reserved_zero_future_use_2» ≡ bits s 5 0 2)
+      × (recordIn s .«ncr_reference» ≡ isOne (bits s 5 2 1))
+      × (recordIn s .«ncr_version» ≡ isOne (bits s 5 3 1))
+      × (recordIn s .«channel_bond» ≡ bits s 5 4 2)
+      × (recordIn s .polarization ≡ bits s 5 6 2)
+      × (recordIn s .«ts_gs_s2x_mode» ≡ bits s 6 1 2)
+      × (recordIn s .«receiver_profiles» ≡ bits s 6 3 5)
+      × (recordIn s .«satellite_id» ≡ bits s 7 0 24)
+      × (recordIn s .frequency ≡ bits s 10 0 32)
+      × (recordIn s .«symbol_rate» ≡ bits s 14 0 32)
+  unfolding recordAt
+  core-fields = (refl, code-mode _, refl, refl, refl, refl, refl, refl, refl, refl, refl, refl, refl, refl)
+
+  -- The top bit of byte 6: the selector in modes 1 and 2, and reserved_1 in the others.
+  pub selector-bit : hasSelector (recordIn s .«s2xv2_mode») ≡ true → recordIn s .«scrambling_sequence_selector» ≡ OB.Some (isOne (bits s 6 0 1))
+  unfolding recordAt
+  selector-bit e = simp e
+
+  pub reserved-1-bit : hasSelector (recordIn s .«s2xv2_mode») ≡ false → recordIn s .«reserved_zero_future_use_1» ≡ bits s 6 0 1
+  unfolding recordAt
+  reserved-1-bit e = simp e
+
+  -- The stream id, at byte 18.
+  pub stream-byte : presentIn s .stream ≡ true → recordIn s .«input_stream_identifier» ≡ O8.Some (bits s 18 0 8)
+  unfolding recordAt
+  stream-byte e = simp e
+
+  -- The scrambling index and reserved_6, behind the stream id.
+  pub scrambling-fields : presentIn s .scrambling ≡ true
+      → (recordIn s .«reserved_zero_future_use_6» ≡ bits s (streamEnd (presentIn s)) 0 6)
+      × (recordIn s .«scrambling_sequence_index» ≡ O32.Some (bits s (streamEnd (presentIn s)) 6 18))
+  unfolding recordAt
+  scrambling-fields e = simp e (refl, refl)
+
+  -- The header of the bonds and their first id, behind the timeslice.
+  pub bond-fields : presentIn s .bond ≡ true
+      → (recordIn s .«reserved_zero_future_use_7» ≡ bits s (timesliceEnd (presentIn s)) 0 7)
+      × (recordIn s .«num_channel_bonds» ≡ when (isOne (bits s (timesliceEnd (presentIn s)) 7 1)) 2 1)
+      × (getD (recordIn s .«secondary_delivery_system_ids») 0 0 ≡ bits s (timesliceEnd (presentIn s) + 1) 0 32)
+  unfolding recordAt
+  bond-fields e = simp e (refl, refl, refl)
+
+  -- The superframe block that starts at byte p, but for its plan id and last byte.
+  pub block-fields : (p : ℕ) (plan : Bool)
+      → (superframeAt s p plan .«sosf_wh_sequence_number» ≡ bits s p 0 8)
+      × (superframeAt s p plan .«sffi_selector» ≡ isOne (bits s (p + 1) 0 1))
+      × (superframeAt s p plan .«beam_hopping_time_plan_selector» ≡ isOne (bits s (p + 1) 1 1))
+      × (superframeAt s p plan .«reserved_zero_future_use_2» ≡ bits s (p + 1) 2 2)
+      × (superframeAt s p plan .«reference_scrambling_index» ≡ bits s (p + 1) 4 20)
+      × (superframeAt s p plan .«payload_scrambling_index» ≡ bits s (p + 4) 4 20)
+  unfolding superframeAt
+  block-fields p plan = (refl, refl, refl, refl, refl, refl)
+
+  -- The nibble of its byte 4: SFFI where its selector is set, and reserved_4 where it is clear.
+  pub sffi-nibble : (p : ℕ) (plan : Bool) → superframeAt s p plan .«sffi_selector» ≡ true → superframeAt s p plan .sffi ≡ O8.Some (bits s (p + 4) 0 4)
+  unfolding superframeAt
+  sffi-nibble p plan e = simp e
+
+  pub reserved-4-nibble : (p : ℕ) (plan : Bool) → superframeAt s p plan .«sffi_selector» ≡ false → superframeAt s p plan .«reserved_zero_future_use_4» ≡ bits s (p + 4) 0 4
+  unfolding superframeAt
+  reserved-4-nibble p plan e = simp e
+
+  -- The last byte, behind the plan id if there is one.
+  pub last-fields : (p : ℕ) (plan : Bool)
+      → (superframeAt s p plan .«superframe_pilots_wh_sequence_number» ≡ bits s (p + when plan 11 7) 0 5)
+      × (superframeAt s p plan .«postamble_pli» ≡ bits s (p + when plan 11 7) 5 3)
+  unfolding superframeAt
+  last-fields p plan = (refl, refl)
+
+  pub plan-field : (p : ℕ) → superframeAt s p true .«beamhopping_time_plan_id» ≡ O32.Some (bits s (p + 7) 0 32)
+  unfolding superframeAt
+  plan-field p = refl
