@@ -3,3 +3,4 @@ pub mod Reach
 pub mod Sizes
 pub mod Fields
 pub mod Cases
+pub mod Lists

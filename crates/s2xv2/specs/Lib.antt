@@ -10,3 +10,4 @@ pub mod Length
 pub mod ListB
 pub mod Write
 pub mod Carried
+pub mod Held
