@@ -4,3 +4,5 @@ pub mod Sizes
 pub mod Fields
 pub mod Cases
 pub mod Lists
+pub mod Whole
+pub mod Round
