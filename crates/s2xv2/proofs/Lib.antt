@@ -6,3 +6,4 @@ pub mod Cases
 pub mod Lists
 pub mod Whole
 pub mod Round
+pub mod Back

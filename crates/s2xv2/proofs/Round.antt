@@ -30,7 +30,10 @@ use Rattle.s2xv2.specs.declared.option.OptionU8.{OptionU8}
 use Rattle.s2xv2.specs.declared.option.OptionU8.the-variants as O8
 use Rattle.s2xv2.specs.declared.option.OptionU32.{OptionU32}
 use Rattle.s2xv2.specs.declared.option.OptionU32.the-variants as O32
-use Rattle.s2xv2.proofs.Lists.{AgreesBlock, AgreesSuperframe, Agrees}
+use Rattle.s2xv2.specs.ListA.{listA, inconsistency}
+use Rattle.s2xv2.specs.ListB.{listB, unwritable}
+use Rattle.s2xv2.specs.Held.{Held}
+use Rattle.s2xv2.proofs.Lists.{first-clear, AgreesBlock, AgreesSuperframe, Agrees, agrees, fits}
 use Rattle.s2xv2.proofs.Whole.{whole-byte, whole-scrambling, whole-bond, whole-parts, encode-length}
 use Rattle.s2xv2.proofs.Reach.{reads-accepted}
 
@@ -315,3 +318,43 @@ module _ (s : List ℕ) (r : S2Xv2SatelliteDeliverySystem) (tail : List ℕ) (b 
       (parts-read (endsOf s (presentOf r)) end₁-is end₂-is end₃-is (ap (hasSecond s) end₃-is) end₄-is (ap (hasPlan s) end₄-is)
       ∙ ap (again r) (core-found .fields)
       ∙ record-from r c)
+
+behind-parts : (r : S2Xv2SatelliteDeliverySystem) (tail : List ℕ) → drop (sizes (partsOf r)) (encode r tail) ≡ tail
+unfolding encode
+behind-parts r tail =
+    let st : Stands (encode r tail) 0 (bytesOf (partsOf r) tail) = record { there = refl; within = omega arith } in
+    let e : Stands (encode r tail) (0 + sizes (partsOf r)) tail = after (partsOf r) (whole-parts r) st in
+    ap (λ (k : ℕ). drop k (encode r tail)) (sym (zero-add (sizes (partsOf r)))) ∙ e .there
+
+module _ (r : S2Xv2SatelliteDeliverySystem) (tail : List ℕ) (a : inconsistency r ≡ 0) (d : unwritable r ≡ 0) (h : Held r) (y : Bytes tail) (n : encodedLength r tail ≤ 4096) where
+  encode-fits : AllFit (partsOf r)
+  unfolding unwritable
+  encode-fits = fits r (first-clear 0 (listB r) d) h
+
+  encode-agrees : Agrees r
+  unfolding inconsistency unwritable
+  encode-agrees = agrees r (first-clear 0 (listA r) a) (first-clear 0 (listB r) d)
+
+  pub encode-bytes : Bytes (encode r tail)
+  unfolding encode
+  encode-bytes = bytes-bytesOf (partsOf r) tail (whole-parts r) encode-fits y
+
+  stands : Stands (encode r tail) 0 (encode r tail)
+  stands = record { there = refl; within = omega arith }
+
+  pub size-encode : bodySize (encode r tail) ≡ sizes (partsOf r)
+  size-encode = size-read (encode r tail) r tail encode-bytes encode-agrees encode-fits stands
+
+  -- Reading what was written gives the record, with all that the wire does not carry at 0, and the place of the tail ..
+  pub read-encode : readOf (encode r tail) ≡ record { told = 0 ∷ sizes (partsOf r) ∷ []; body = carried r }
+  unfolding encodedLength
+  read-encode =
+      let l = encode-length r tail in
+      reads-accepted (encode r tail) (rw size-encode (omega arith)) (omega arith)
+      ∙ rw (size-encode, record-read (encode r tail) r tail encode-bytes encode-agrees encode-fits stands)
+
+  -- .. where the tail stands.
+  pub tail-encode : tailOf (encode r tail) ≡ tail
+  tail-encode =
+      let e : readTold (encode r tail) ≡ 0 ∷ sizes (partsOf r) ∷ [] = ap (λ (x : Reading). x .told) read-encode in
+      simp (e, size-encode) (behind-parts r tail)
