@@ -7,3 +7,4 @@ pub mod Lists
 pub mod Whole
 pub mod Round
 pub mod Back
+pub mod Domain

@@ -176,7 +176,7 @@ plan-fits true v f h k = ((h, tt), (k, tt))
 plan-fits false v f h k = (k, tt)
 
 -- the tests of list B that are of the superframe block
-abbrev blockTests : OptionSuperframe → List Bool
+abbrev pub blockTests : OptionSuperframe → List Bool
 blockTests o =
     inSuperframe (λ f. wide 20 (f .«reference_scrambling_index»)) o
     ∷ inSuperframe (λ f. wide 20 (f .«payload_scrambling_index»)) o
@@ -193,7 +193,7 @@ unfolding superframeParts
 superframe-fits (OS.Some f) b h = (
   (h .sosf, (bit-fits (f .«sffi_selector»), (bit-fits (f .«beam_hopping_time_plan_selector»), (narrow 2 _ (b .1 .1 .0), (narrow 20 _ (b .0), (narrow 4 _ (b .1 .1 .1 .1 .0), (narrow 20 _ (b .1 .0), tt))))))),
   plan-fits (f .«beam_hopping_time_plan_selector») (f .«beamhopping_time_plan_id») f (h .plan)
-  (narrow 5 _ (b .1 .1 .1 .1 .1 .1 .0), (narrow 3 _ (b .1 .1 .1 .1 .1 .1 .1 .0), tt)),
+      (narrow 5 _ (b .1 .1 .1 .1 .1 .1 .0), (narrow 3 _ (b .1 .1 .1 .1 .1 .1 .1 .0), tt)),
 )
 superframe-fits OS.None b h = tt
 
@@ -239,8 +239,8 @@ module _ (r : S2Xv2SatelliteDeliverySystem) (b : Clear (listB r)) (h : Held r) w
       let b₁₀ = b .1 .1 .1 .1 .1 .1 .1 .1 .1 in (
         core-fits,
         fit-append (streamOf r) _ (byte-fits _ (h .stream))
-        (fit-append (scramblingOf r) _ (scrambling-fits (selected (r .«scrambling_sequence_selector»)) _ _ (b₁₀ .1 .0) (b₁₀ .1 .1 .0))
-        (fit-append (timesliceOf r) _ (byte-fits _ (h .timeslice))
-        (fit-append (bondOf r) (superframeOf r) (bond-fits (eqb (r .«channel_bond») 1) _ _ _ (b₁₀ .1 .1 .1 .0) (b₁₀ .1 .1 .1 .1 .0) (h .first) (h .second))
-        (superframe-fits (r .superframe) (b₁₀ .1 .1 .1 .1 .1) (h .block))))),
+            (fit-append (scramblingOf r) _ (scrambling-fits (selected (r .«scrambling_sequence_selector»)) _ _ (b₁₀ .1 .0) (b₁₀ .1 .1 .0))
+            (fit-append (timesliceOf r) _ (byte-fits _ (h .timeslice))
+            (fit-append (bondOf r) (superframeOf r) (bond-fits (eqb (r .«channel_bond») 1) _ _ _ (b₁₀ .1 .1 .1 .0) (b₁₀ .1 .1 .1 .1 .0) (h .first) (h .second))
+            (superframe-fits (r .superframe) (b₁₀ .1 .1 .1 .1 .1) (h .block))))),
       )
