@@ -19,7 +19,7 @@ use Rattle.s2xv2.specs.Options.{isSomeBool, isSome8, isSome32, isSomeSup
 use Rattle.s2xv2.specs.Read.{presentIn, only, streamEnd, scramblingEnd, timesliceEnd, hasSecond, bondEnd, hasPlan, endsOf, planAt, superframeAt, byteAt, reserved6At, indexAt, reserved7At, countIf, firstIdAt, secondIdAt, recordAt, recordIn}
 use Rattle.s2xv2.specs.Encode.{lessOne, nibbleOf}
 use Rattle.s2xv2.specs.ListA.{misnamed, inSuperframe, listA, inconsistency}
-use Rattle.s2xv2.specs.ListB.{wide, listB, unwritable}
+use Rattle.s2xv2.specs.ListB.{wide, superframeB, listB, unwritable}
 use Rattle.s2xv2.specs.Carried.{carriedSuperframe, carriedId, carried}
 use Rattle.s2xv2.specs.Held.{HeldBlock, HeldSuperframe, Held}
 use Rattle.s2xv2.specs.declared.layout.Present.{Present}
@@ -28,7 +28,7 @@ use Rattle.s2xv2.specs.declared.superframe.OptionSuperframe.{OptionSuper
 use Rattle.s2xv2.specs.declared.superframe.OptionSuperframe.the-variants as OS
 use Rattle.s2xv2.specs.declared.mode.S2Xv2Mode.the-variants as M
 use Rattle.s2xv2.proofs.Fields.{code-mode}
-use Rattle.s2xv2.proofs.Lists.{Clear, clear-first, blockTests}
+use Rattle.s2xv2.proofs.Lists.{Clear, clear-first}
 use Rattle.s2xv2.proofs.Back.{selected-back, nibble-back}
 
 -- ---- tests that fail
@@ -169,7 +169,7 @@ plan-there false v = refl
 
 module _ (s : List ℕ) (y : Bytes s) where
   -- the tests of the superframe block
-  block-clear : (t : Bool) (p : ℕ) → Clear (blockTests (someSuperframeIf t (superframeAt s p (hasPlan s p))))
+  block-clear : (t : Bool) (p : ℕ) → Clear (superframeB (someSuperframeIf t (superframeAt s p (hasPlan s p))))
   unfolding superframeAt
   block-clear true p =
       let f = fit-cut s p T.superframe refl y in

@@ -4,9 +4,10 @@
 use mathlib.Core.Path.{_≡_, refl, sym, ap, _∙_}
 use mathlib.Core.List.{List, [], _∷_, _++_}
 use mathlib.Core.Bool.{Bool, true, false}
-use Prim.Native.Nat.{ℕ, zero, suc, _^_, _≤_, _<_}
+use Prim.Native.Nat.{ℕ, zero, suc, _+_, _^_, _≤_, _<_}
 use native.Mathlib.Omega.{arith}
-use lib.ListN.{getD}
+use native.Mathlib.Nat.{add-zero}
+use lib.ListN.{length, getD}
 use lib.Dec.{eqb, ltb, leb}
 use borrow.Author.Tests.{ltb-false, leb-false, eqb-true, eqb-false, ne-eqb}
 use Rattle.wire.specs.Flags.{when, bit, and, not, differ}
@@ -18,7 +19,7 @@ use Rattle.s2xv2.specs.Table144c.{modeOf, codeOf, hasSelector, hasTimesl
 use Rattle.s2xv2.specs.Options.{isSomeBool, isSome8, isSome32, isSomeSuperframe, selected, orZero8, orZero32}
 use Rattle.s2xv2.specs.Encode.{topBit, coreValues, byteParts, scramblingParts, lessOne, idParts, bondParts, nibbleOf, superframeValues, superframeEndValues, blockParts, planParts, superframeParts, streamOf, scramblingOf, timesliceOf, bondOf, superframeOf, partsOf}
 use Rattle.s2xv2.specs.ListA.{firstFrom, misnamed, inSuperframe, listA, inconsistency}
-use Rattle.s2xv2.specs.ListB.{wide, listB, unwritable}
+use Rattle.s2xv2.specs.ListB.{wide, superframeB, listB, unwritable}
 use Rattle.s2xv2.specs.Held.{HeldBlock, HeldSuperframe, Held}
 use Rattle.s2xv2.specs.declared.record.S2Xv2SatelliteDeliverySystem.{S2Xv2SatelliteDeliverySystem}
 use Rattle.s2xv2.specs.declared.superframe.S2Xv2Superframe.{S2Xv2Superframe}
@@ -175,20 +176,7 @@ plan-fits : (t : Bool) (v : OptionU32) (f : S2Xv2Superframe) → orZero32 v < 2 
 plan-fits true v f h k = ((h, tt), (k, tt))
 plan-fits false v f h k = (k, tt)
 
--- the tests of list B that are of the superframe block
-abbrev pub blockTests : OptionSuperframe → List Bool
-blockTests o =
-    inSuperframe (λ f. wide 20 (f .«reference_scrambling_index»)) o
-    ∷ inSuperframe (λ f. wide 20 (f .«payload_scrambling_index»)) o
-    ∷ inSuperframe (λ f. wide 2 (f .«reserved_zero_future_use_2»)) o
-    ∷ inSuperframe (λ f. and (f .«sffi_selector») (not (isSome8 (f .sffi)))) o
-    ∷ inSuperframe (λ f. wide 4 (nibbleOf (f .«sffi_selector») (f .sffi) (f .«reserved_zero_future_use_4»))) o
-    ∷ inSuperframe (λ f. and (f .«beam_hopping_time_plan_selector») (not (isSome32 (f .«beamhopping_time_plan_id»)))) o
-    ∷ inSuperframe (λ f. wide 5 (f .«superframe_pilots_wh_sequence_number»)) o
-    ∷ inSuperframe (λ f. wide 3 (f .«postamble_pli»)) o
-    ∷ []
-
-superframe-fits : (o : OptionSuperframe) → Clear (blockTests o) → HeldSuperframe o → AllFit (superframeParts o)
+superframe-fits : (o : OptionSuperframe) → Clear (superframeB o) → HeldSuperframe o → AllFit (superframeParts o)
 unfolding superframeParts
 superframe-fits (OS.Some f) b h = (
   (h .sosf, (bit-fits (f .«sffi_selector»), (bit-fits (f .«beam_hopping_time_plan_selector»), (narrow 2 _ (b .1 .1 .0), (narrow 20 _ (b .0), (narrow 4 _ (b .1 .1 .1 .1 .0), (narrow 20 _ (b .1 .0), tt))))))),
@@ -244,3 +232,15 @@ module _ (r : S2Xv2SatelliteDeliverySystem) (b : Clear (listB r)) (h : Held r) w
             (fit-append (bondOf r) (superframeOf r) (bond-fits (eqb (r .«channel_bond») 1) _ _ _ (b₁₀ .1 .1 .1 .0) (b₁₀ .1 .1 .1 .1 .0) (h .first) (h .second))
             (superframe-fits (r .superframe) (b₁₀ .1 .1 .1 .1 .1) (h .block))))),
       )
+
+-- ---- lists one after the other
+
+-- the first place of two lists is that of the first list, or of the second if the first has none
+pub first-append : (p : ℕ) (ts us : List Bool) → firstFrom (suc p) (ts ++ us) ≡ when (eqb (firstFrom (suc p) ts) 0) (firstFrom (suc p + length ts) us) (firstFrom (suc p) ts)
+first-append p [] us = ap (λ (k : ℕ). firstFrom k us) (sym (add-zero (suc p)))
+first-append p (true ∷ ts) us = simp (ne-eqb (suc p) 0 (λ d. omega arith))
+first-append p (false ∷ ts) us = first-append (suc p) ts us ∙ ap (λ (k : ℕ). when (eqb (firstFrom (suc (suc p)) ts) 0) (firstFrom k us) (firstFrom (suc (suc p)) ts)) (omega arith)
+
+pub clear-append : (p : ℕ) (ts us : List Bool) → Clear ts → firstFrom p (ts ++ us) ≡ firstFrom (p + length ts) us
+clear-append p [] us h = ap (λ (k : ℕ). firstFrom k us) (sym (add-zero p))
+clear-append p (t ∷ ts) us h = simp (h .0) (clear-append (suc p) ts us (h .1) ∙ ap (λ (k : ℕ). firstFrom k us) (omega arith))

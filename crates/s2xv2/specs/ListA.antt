@@ -1,7 +1,7 @@
--- List A of document 01: a record that contradicts itself. `listA` has its tests in their order, `firstOf` says which is the first that
--- holds, and `inconsistency` is that place, or 0 for a consistent record. Assumes nothing.
+-- List A of document 01: a record that contradicts itself. `listA` has its tests in their order (`partsA`, then `superframeA`), `firstOf`
+-- says which is the first that holds, and `inconsistency` is that place, or 0 for a consistent record. Assumes nothing.
 use Prim.Native.Nat.{ℕ, zero, suc, _+_}
-use mathlib.Core.List.{List, [], _∷_}
+use mathlib.Core.List.{List, [], _∷_, _++_}
 use mathlib.Core.Bool.{Bool, false}
 use lib.Dec.{eqb, ltb}
 use Rattle.wire.specs.Flags.{when, and, not, differ}
@@ -37,8 +37,9 @@ abbrev pub inSuperframe : (S2Xv2Superframe → Bool) → OptionSuperframe → Bo
 inSuperframe test (OS.Some f) = test f
 inSuperframe test OS.None = false
 
-abbrev pub listA : S2Xv2SatelliteDeliverySystem → List Bool
-listA r =
+-- what mode and flags say of the parts
+abbrev pub partsA : S2Xv2SatelliteDeliverySystem → List Bool
+partsA r =
     misnamed (r .«s2xv2_mode»)  -- 1: mode Reserved(v) with v below 6
     ∷ differ (isSome8 (r .«input_stream_identifier»)) (r .«multiple_input_stream_flag»)  -- 2: stream id present differently from the flag
     ∷ differ (isSomeBool (r .«scrambling_sequence_selector»)) (hasSelector (r .«s2xv2_mode»))  -- 3: selector missing in mode 1 or 2, or present in another
@@ -46,9 +47,17 @@ listA r =
     ∷ differ (isSome8 (r .«timeslice_number»)) (hasTimeslice (r .«s2xv2_mode»))  -- 5: timeslice missing in mode 2 or 5, or present in another
     ∷ and (ltb 0 (r .«num_channel_bonds»)) (not (eqb (r .«channel_bond») 1))  -- 6: a count above 0 though channel_bond is not 1
     ∷ differ (isSomeSuperframe (r .superframe)) (hasSuperframe (r .«s2xv2_mode»))  -- 7: superframe missing in mode 4 or 5, or present in another
-    ∷ inSuperframe (λ f. and (isSome8 (f .sffi)) (not (f .«sffi_selector»))) (r .superframe)  -- 8: SFFI present with its selector clear
-    ∷ inSuperframe (λ f. and (isSome32 (f .«beamhopping_time_plan_id»)) (not (f .«beam_hopping_time_plan_selector»))) (r .superframe)  -- 9: plan id present with its selector clear
     ∷ []
+
+-- what the selectors of the superframe block say
+abbrev pub superframeA : OptionSuperframe → List Bool
+superframeA o =
+    inSuperframe (λ f. and (isSome8 (f .sffi)) (not (f .«sffi_selector»))) o  -- 8: SFFI present with its selector clear
+    ∷ inSuperframe (λ f. and (isSome32 (f .«beamhopping_time_plan_id»)) (not (f .«beam_hopping_time_plan_selector»))) o  -- 9: plan id present with its selector clear
+    ∷ []
+
+abbrev pub listA : S2Xv2SatelliteDeliverySystem → List Bool
+listA r = partsA r ++ superframeA (r .superframe)
 
 unfoldable pub inconsistency : S2Xv2SatelliteDeliverySystem → ℕ
 inconsistency r = firstOf (listA r)

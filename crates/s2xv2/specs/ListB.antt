@@ -1,5 +1,6 @@
--- List B of document 01: a value that the wire cannot carry. `listB` has its tests in their order, judging only what is on the wire;
--- `unwritable` is the place of the first that holds, or 0. `wide w v` says that v takes more than w bits. Assumes nothing.
+-- List B of document 01: a value that the wire cannot carry. `listB` has its tests in their order (`coreB`, `scramblingB`, `bondB`,
+-- `superframeB`), judging only what is on the wire; `unwritable` is the place of the first that holds, or 0. `wide w v` says that v takes
+-- more than w bits. Assumes nothing.
 use Prim.Native.Nat.{ℕ, _^_}
 use mathlib.Core.List.{List, [], _∷_, _++_}
 use mathlib.Core.Bool.{Bool, false}
@@ -10,12 +11,14 @@ use Rattle.s2xv2.specs.Options.{isSomeBool, isSome8, isSome32, selected,
 use Rattle.s2xv2.specs.Encode.{lessOne, nibbleOf}
 use Rattle.s2xv2.specs.ListA.{firstOf, inSuperframe}
 use Rattle.s2xv2.specs.declared.record.S2Xv2SatelliteDeliverySystem.{S2Xv2SatelliteDeliverySystem}
+use Rattle.s2xv2.specs.declared.superframe.OptionSuperframe.{OptionSuperframe}
 
 abbrev pub wide : ℕ → ℕ → Bool
 wide w v = leb (2 ^ w) v
 
-abbrev pub listB : S2Xv2SatelliteDeliverySystem → List Bool
-listB r =
+-- the core
+abbrev pub coreB : S2Xv2SatelliteDeliverySystem → List Bool
+coreB r =
     wide 4 (codeOf (r .«s2xv2_mode»))  -- 1: mode
     ∷ wide 3 (r .«roll_off»)  -- 2: roll_off
     ∷ wide 2 (r .«reserved_zero_future_use_2»)  -- 3: reserved_2
@@ -25,20 +28,38 @@ listB r =
     ∷ wide 2 (r .«ts_gs_s2x_mode»)  -- 7: ts_gs_s2x_mode
     ∷ wide 5 (r .«receiver_profiles»)  -- 8: receiver_profiles
     ∷ wide 24 (r .«satellite_id»)  -- 9: satellite_id
-    ∷ and (selected (r .«scrambling_sequence_selector»)) (not (isSome32 (r .«scrambling_sequence_index»)))  -- 10: index absent with selector set
+    ∷ []
+
+-- the scrambling index, where its selector is set
+abbrev pub scramblingB : S2Xv2SatelliteDeliverySystem → List Bool
+scramblingB r =
+    and (selected (r .«scrambling_sequence_selector»)) (not (isSome32 (r .«scrambling_sequence_index»)))  -- 10: index absent with selector set
     ∷ and (selected (r .«scrambling_sequence_selector»)) (wide 18 (orZero32 (r .«scrambling_sequence_index»)))  -- 11: index
     ∷ and (selected (r .«scrambling_sequence_selector»)) (wide 6 (r .«reserved_zero_future_use_6»))  -- 12: reserved_6
-    ∷ and (eqb (r .«channel_bond») 1) (wide 1 (lessOne (r .«num_channel_bonds»)))  -- 13: bond count other than 1 or 2 under channel_bond 1
-    ∷ and (eqb (r .«channel_bond») 1) (wide 7 (r .«reserved_zero_future_use_7»))  -- 14: reserved_7
-    ∷ inSuperframe (λ f. wide 20 (f .«reference_scrambling_index»)) (r .superframe)  -- 15: reference index
-    ∷ inSuperframe (λ f. wide 20 (f .«payload_scrambling_index»)) (r .superframe)  -- 16: payload index
-    ∷ inSuperframe (λ f. wide 2 (f .«reserved_zero_future_use_2»)) (r .superframe)  -- 17: superframe reserved_2
-    ∷ inSuperframe (λ f. and (f .«sffi_selector») (not (isSome8 (f .sffi)))) (r .superframe)  -- 18: SFFI absent with selector set
-    ∷ inSuperframe (λ f. wide 4 (nibbleOf (f .«sffi_selector») (f .sffi) (f .«reserved_zero_future_use_4»))) (r .superframe)  -- 19: SFFI or its reserved nibble
-    ∷ inSuperframe (λ f. and (f .«beam_hopping_time_plan_selector») (not (isSome32 (f .«beamhopping_time_plan_id»)))) (r .superframe)  -- 20: plan id absent with selector set
-    ∷ inSuperframe (λ f. wide 5 (f .«superframe_pilots_wh_sequence_number»)) (r .superframe)  -- 21: pilots
-    ∷ inSuperframe (λ f. wide 3 (f .«postamble_pli»)) (r .superframe)  -- 22: postamble_pli
     ∷ []
+
+-- the bonds, under channel_bond 1
+abbrev pub bondB : S2Xv2SatelliteDeliverySystem → List Bool
+bondB r =
+    and (eqb (r .«channel_bond») 1) (wide 1 (lessOne (r .«num_channel_bonds»)))  -- 13: bond count other than 1 or 2 under channel_bond 1
+    ∷ and (eqb (r .«channel_bond») 1) (wide 7 (r .«reserved_zero_future_use_7»))  -- 14: reserved_7
+    ∷ []
+
+-- the superframe block
+abbrev pub superframeB : OptionSuperframe → List Bool
+superframeB o =
+    inSuperframe (λ f. wide 20 (f .«reference_scrambling_index»)) o  -- 15: reference index
+    ∷ inSuperframe (λ f. wide 20 (f .«payload_scrambling_index»)) o  -- 16: payload index
+    ∷ inSuperframe (λ f. wide 2 (f .«reserved_zero_future_use_2»)) o  -- 17: superframe reserved_2
+    ∷ inSuperframe (λ f. and (f .«sffi_selector») (not (isSome8 (f .sffi)))) o  -- 18: SFFI absent with selector set
+    ∷ inSuperframe (λ f. wide 4 (nibbleOf (f .«sffi_selector») (f .sffi) (f .«reserved_zero_future_use_4»))) o  -- 19: SFFI or its reserved nibble
+    ∷ inSuperframe (λ f. and (f .«beam_hopping_time_plan_selector») (not (isSome32 (f .«beamhopping_time_plan_id»)))) o  -- 20: plan id absent with selector set
+    ∷ inSuperframe (λ f. wide 5 (f .«superframe_pilots_wh_sequence_number»)) o  -- 21: pilots
+    ∷ inSuperframe (λ f. wide 3 (f .«postamble_pli»)) o  -- 22: postamble_pli
+    ∷ []
+
+abbrev pub listB : S2Xv2SatelliteDeliverySystem → List Bool
+listB r = coreB r ++ (scramblingB r ++ (bondB r ++ superframeB (r .superframe)))
 
 unfoldable pub unwritable : S2Xv2SatelliteDeliverySystem → ℕ
 unwritable r = firstOf (listB r)

@@ -2,3 +2,4 @@ pub mod Flags
 pub mod Bits
 pub mod Widths
 pub mod Parts
+pub mod Store
