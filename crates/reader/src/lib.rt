@@ -2,10 +2,10 @@
 ghost use mathlib.Core.Path.{_≡_};
 ghost use Rattle.s2xv2.specs.Default.{defaultRecord};
 ghost use Rattle.s2xv2.specs.Read.{readOf, tailOf};
-ghost use Rattle.s2xv2.specs.Answer.{saturated};
 ghost use Rattle.reader.specs.Seen.{seen, refusal};
 use s2xv2::answer::Answer;
 use s2xv2::answer::Refusal;
+use s2xv2::answer::saturated;
 use s2xv2::record::S2Xv2SatelliteDeliverySystem;
 
 mod bytes;
@@ -17,13 +17,6 @@ mod record;
 pub struct Parsed {
     pub answer: Answer,
     pub body: S2Xv2SatelliteDeliverySystem,
-}
-
-// A length as answer 2 tells it: 65,535 for all above that.
-fn saturated(n: usize) -> u16
-    ensures { λ r. ⌜ r ≡ saturated n ⌝ }
-{
-    if 65535 < n { 65535 } else { n as u16 }
 }
 
 // A refused body shows the default record.

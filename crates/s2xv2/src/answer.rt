@@ -1,4 +1,6 @@
 // What a call answers. `specs/Answer.antt` gives the number of each answer and the numbers that it tells.
+ghost use mathlib.Core.Path.{_≡_};
+ghost use Rattle.s2xv2.specs.Answer.{saturated};
 
 // Why a call was refused.
 pub enum Refusal {
@@ -24,4 +26,11 @@ pub enum Refusal {
 pub enum Answer {
     Accepted(usize),
     Refused(Refusal),
+}
+
+// A length as answer 2 tells it: 65,535 for all above that.
+pub fn saturated(n: usize) -> u16
+    ensures { λ r. ⌜ r ≡ saturated n ⌝ }
+{
+    if 65535 < n { 65535 } else { n as u16 }
 }

@@ -5,7 +5,9 @@ ghost use Rattle.wire.specs.Flags.{and, not, differ};
 ghost use Rattle.s2xv2.specs.Options.{isSomeBool, isSome8, isSome32, isSomeSuperframe, selected};
 ghost use Rattle.s2xv2.specs.ListA.{firstFrom, misnamed, superframeA, inconsistency};
 use s2xv2::mode::S2Xv2Mode;
-use s2xv2::option::{OptionBool, OptionU32, OptionU8};
+use s2xv2::option::OptionBool;
+use s2xv2::option::OptionU8;
+use s2xv2::option::OptionU32;
 use s2xv2::record::S2Xv2SatelliteDeliverySystem;
 use s2xv2::superframe::OptionSuperframe;
 
@@ -83,7 +85,8 @@ fn u32_stray(v: OptionU32, set: bool) -> bool
     }
 }
 
-fn is_selected(selector: OptionBool) -> bool
+// The selector is there and set.
+pub(crate) fn is_selected(selector: OptionBool) -> bool
     ensures { λ r. ⌜ r ≡ selected selector ⌝ }
 {
     match selector {

@@ -119,18 +119,25 @@ returns-8 c =
     ∙ sym (clear-append 1 (partsA r) (superframeA (r .superframe)) (
       sym (c .before .before .before .before .before .before .before .before .before .before .before .before .before .before .before .before .before .before .is-misnamed .ensures) ∙ c .before .before .before .before .before .before .before .before .before .before .before .before .before .before .before .before .before .if1 .left,
       (
-      sym (c .before .before .before .before .before .before .before .before .before .before .before .before .before .before .before .before .u8-differs .ensures) ∙ c .before .before .before .before .before .before .before .before .before .before .before .before .before .before .before .if2 .left,
-      (
-      sym (rw (c .before .before .before .before .before .before .before .before .before .before .before .before .before .before .has-scrambling-selector .ensures) at (c .before .before .before .before .before .before .before .before .before .before .before .before .before .bool-differs .ensures)) ∙ c .before .before .before .before .before .before .before .before .before .before .before .before .if3 .left,
-      (
-      sym (rw (c .before .before .before .before .before .before .before .before .before .before .before .is-selected .ensures) at (c .before .before .before .before .before .before .before .before .before .before .u32-stray .ensures)) ∙ c .before .before .before .before .before .before .before .before .before .if4 .left,
-      (
-      sym (rw (c .before .before .before .before .before .before .before .before .has-timeslice .ensures) at (c .before .before .before .before .before .before .before .u8-differs2 .ensures)) ∙ c .before .before .before .before .before .before .if5 .left,
-      (
-      sym (c .before .before .before .before .before .bonds-stray .ensures) ∙ c .before .before .before .before .if6 .left,
-      (
-      sym (rw (c .before .before .before .has-superframe .ensures) at (c .before .before .superframe-differs .ensures)) ∙ c .before .if7 .left,
-      tt))))))))
+        sym (c .before .before .before .before .before .before .before .before .before .before .before .before .before .before .before .before .u8-differs .ensures) ∙ c .before .before .before .before .before .before .before .before .before .before .before .before .before .before .before .if2 .left,
+        (
+          sym (rw (c .before .before .before .before .before .before .before .before .before .before .before .before .before .before .has-scrambling-selector .ensures) at (c .before .before .before .before .before .before .before .before .before .before .before .before .before .bool-differs .ensures)) ∙ c .before .before .before .before .before .before .before .before .before .before .before .before .if3 .left,
+          (
+            sym (rw (c .before .before .before .before .before .before .before .before .before .before .before .is-selected .ensures) at (c .before .before .before .before .before .before .before .before .before .before .u32-stray .ensures)) ∙ c .before .before .before .before .before .before .before .before .before .if4 .left,
+            (
+              sym (rw (c .before .before .before .before .before .before .before .before .has-timeslice .ensures) at (c .before .before .before .before .before .before .before .u8-differs2 .ensures)) ∙ c .before .before .before .before .before .before .if5 .left,
+              (
+                sym (c .before .before .before .before .before .bonds-stray .ensures) ∙ c .before .before .before .before .if6 .left,
+                (
+                  sym (rw (c .before .before .before .has-superframe .ensures) at (c .before .before .superframe-differs .ensures)) ∙ c .before .if7 .left,
+                  tt,
+                ),
+              ),
+            ),
+          ),
+        ),
+      ),
+    ))
 
 pub inconsistency-spec : {M : Type 1} → statement M
 inconsistency-spec =

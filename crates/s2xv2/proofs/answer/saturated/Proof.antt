@@ -1,9 +1,9 @@
--- `reader::saturated` meets its contract: the test picks the case.
+-- `s2xv2::answer::saturated` meets its contract: the test picks the case.
 -- Assumes nothing.
 use borrow.Author.Tests.{lt-ltb, le-ltb}
 use borrow.Author.Needs.{needs}
-use Rattle.reader.proofs.saturated.Statement.{statement}
-use Rattle.reader.proofs.saturated.Tie as tie
+use Rattle.s2xv2.proofs.answer.saturated.Statement.{statement}
+use Rattle.s2xv2.proofs.answer.saturated.Tie as tie
 
 cast-result : tie.Need-cast-result
 cast-result c = search needs
