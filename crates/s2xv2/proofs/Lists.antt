@@ -65,10 +65,10 @@ both-ways true false e f = e
 both-ways false true e f = sym f
 both-ways false false e f = refl
 
-narrow : (w v : ℕ) → wide w v ≡ false → v < 2 ^ w
+pub narrow : (w v : ℕ) → wide w v ≡ false → v < 2 ^ w
 narrow w v e = leb-false _ _ e
 
-narrow-if : (t : Bool) (w v : ℕ) → and t (wide w v) ≡ false → t ≡ true → v < 2 ^ w
+pub narrow-if : (t : Bool) (w v : ℕ) → and t (wide w v) ≡ false → t ≡ true → v < 2 ^ w
 narrow-if true w v e h = narrow w v e
 narrow-if false w v e h = absurd (let z : _≡_ {A = ℕ} 0 1 = cc in omega arith)
 
@@ -148,7 +148,7 @@ bit-fits : (b : Bool) → bit b < 2 ^ 1
 bit-fits true = omega arith
 bit-fits false = omega arith
 
-top-fits : (c : OptionBool) (v : ℕ) → and (not (isSomeBool c)) (wide 1 v) ≡ false → topBit c v < 2 ^ 1
+pub top-fits : (c : OptionBool) (v : ℕ) → and (not (isSomeBool c)) (wide 1 v) ≡ false → topBit c v < 2 ^ 1
 top-fits (OB.Some b) v e = bit-fits b
 top-fits OB.None v e = narrow 1 v e
 

@@ -34,7 +34,7 @@ use Rattle.s2xv2.specs.ListA.{listA, inconsistency}
 use Rattle.s2xv2.specs.ListB.{listB, unwritable}
 use Rattle.s2xv2.specs.Held.{Held}
 use Rattle.s2xv2.proofs.Lists.{first-clear, AgreesBlock, AgreesSuperframe, Agrees, agrees, fits}
-use Rattle.s2xv2.proofs.Whole.{whole-byte, whole-scrambling, whole-bond, whole-parts, encode-length}
+use Rattle.s2xv2.proofs.Whole.{byte-size, scrambling-size, whole-byte, whole-scrambling, whole-bond, whole-parts, encode-length}
 use Rattle.s2xv2.proofs.Reach.{reads-accepted}
 
 false-true : false ≡ true → ⊥
@@ -193,16 +193,6 @@ again r vs =
 record-from : (r : S2Xv2SatelliteDeliverySystem) → Agrees r → again r (coreValues r) ≡ carried r
 unfolding carried
 record-from r c = simp (c .mode, bit-set, sym (c .selector), shared-selector, shared-reserved)
-
-byte-size : (v : OptionU8) → only (isSome8 v) 1 ≡ sizes (byteParts (8 ∷ []) v)
-unfolding byteParts
-byte-size (O8.Some v) = refl
-byte-size O8.None = refl
-
-scrambling-size : (t : Bool) (r : ℕ) (i : OptionU32) → only t 3 ≡ sizes (scramblingParts t r i)
-unfolding scramblingParts
-scrambling-size true r i = refl
-scrambling-size false r i = refl
 
 module _ (s : List ℕ) (r : S2Xv2SatelliteDeliverySystem) (tail : List ℕ) (b : Bytes s) (c : Agrees r) (f : AllFit (partsOf r)) (st : Stands s 0 (encode r tail)) where
   abbrev rest₁ : List Part

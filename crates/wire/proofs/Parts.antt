@@ -1,7 +1,7 @@
 -- Laws of parts: their length is the sum of the widths; where they stand in a body, their fields are cut; and what is cut stands there.
 -- Assumes nothing.
 use mathlib.Core.Path.{_≡_, refl, sym, ap, ap₂, _∙_}
-use mathlib.Core.List.{List, [], _∷_, _++_}
+use mathlib.Core.List.{List, [], _∷_, _++_, append-assoc}
 use Prim.Native.Nat.{ℕ, _+_, _%_, _≤_}
 use native.Mathlib.Nat.{add-assoc, zero-add, add-zero}
 use native.Mathlib.Omega.{arith}
@@ -24,6 +24,11 @@ whole-append (p ∷ ps) qs h k = (h .0, whole-append ps qs (h .1) k)
 pub bytesOf-append : (ps qs : List Part) (l : List ℕ) → bytesOf (ps ++ qs) l ≡ bytesOf ps (bytesOf qs l)
 bytesOf-append [] qs l = refl
 bytesOf-append (p ∷ ps) qs l = ap (λ (k : List ℕ). pack (p .widths) (p .values) ++ k) (bytesOf-append ps qs l)
+
+-- the tail stands behind the parts
+pub bytesOf-tail : (ps : List Part) (l : List ℕ) → bytesOf ps l ≡ bytesOf ps [] ++ l
+bytesOf-tail [] l = refl
+bytesOf-tail (p ∷ ps) l = ap (λ (k : List ℕ). pack (p .widths) (p .values) ++ k) (bytesOf-tail ps l) ∙ sym (append-assoc (pack (p .widths) (p .values)) (bytesOf ps []) l)
 
 pub sizes-append : (ps qs : List Part) → sizes (ps ++ qs) ≡ sizes ps + sizes qs
 sizes-append [] qs = sym (zero-add (sizes qs))

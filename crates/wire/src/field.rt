@@ -1,6 +1,6 @@
 // Fields inside one byte.
 ghost use mathlib.Core.Path.{_≡_};
-ghost use Prim.Native.Nat.{_/_, _%_};
+ghost use Prim.Native.Nat.{_/_, _%_, _<_};
 ghost use Rattle.wire.specs.Flags.{bit, isOne};
 
 // The field of `b` below `m` that stands above `d`: both are powers of two, as 16 and 4 for bits 5 and 4 (from the right, 0 first).
@@ -24,7 +24,7 @@ pub fn flag(b: u8, d: u8) -> bool
 
 // A flag as a bit.
 pub fn bit_of(b: bool) -> u8
-    ensures { λ r. ⌜ r ≡ bit b ⌝ }
+    ensures { λ r. ⌜ (r ≡ bit b) × (r < 2) ⌝ }
 {
     if b { 1 } else { 0 }
 }

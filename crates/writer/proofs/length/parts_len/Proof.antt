@@ -1,0 +1,58 @@
+-- `writer::length::parts_len` meets its contract: the parts are counted as the law of their sizes has it.
+-- Assumes nothing.
+use native.Mathlib.Omega.{arith}
+use Rattle.s2xv2.proofs.Whole.{parts-size}
+use borrow.Author.Needs.{needs}
+use Rattle.writer.proofs.length.parts_len.Statement.{statement}
+use Rattle.writer.proofs.length.parts_len.Tie as tie
+
+byte-len-requires : tie.Need-byte-len-requires
+byte-len-requires c κs = search needs
+
+add-result : tie.Need-add-result
+add-result c = search needs
+
+scrambling-len-requires : tie.Need-scrambling-len-requires
+scrambling-len-requires c κs = search needs
+
+add-result-2 : tie.Need-add-result-2
+add-result-2 c = search needs
+
+byte-len-requires-2 : tie.Need-byte-len-requires-2
+byte-len-requires-2 c κs = search needs
+
+add-result-3 : tie.Need-add-result-3
+add-result-3 c = search needs
+
+bond-len-requires : tie.Need-bond-len-requires
+bond-len-requires c κs = search needs
+
+add-result-4 : tie.Need-add-result-4
+add-result-4 c = search needs
+
+superframe-len-requires : tie.Need-superframe-len-requires
+superframe-len-requires c κs = search needs
+
+add-result-5 : tie.Need-add-result-5
+add-result-5 c = search needs
+
+returns : tie.Need-returns
+returns c =
+    let e = parts-size (c .before .before .before .before .before .args .r) in
+    (omega (arith, c .superframe-len .ensures, c .before .bond-len .ensures, c .before .before .byte-len2 .ensures, c .before .before .before .scrambling-len .ensures, c .before .before .before .before .byte-len .ensures), omega arith)
+
+pub parts-len-spec : {M : Type 1} → statement M
+parts-len-spec =
+    tie.close
+    (tie.spec
+    byte-len-requires
+    add-result
+    scrambling-len-requires
+    add-result-2
+    byte-len-requires-2
+    add-result-3
+    bond-len-requires
+    add-result-4
+    superframe-len-requires
+    add-result-5
+    returns)

@@ -1,0 +1,62 @@
+-- `writer::serialized_len` meets its contract: the tests pick the case of the definition.
+-- Assumes nothing.
+use mathlib.Core.Path.{_≡_, sym, ap, _∙_}
+use Prim.Native.Nat.{ℕ, _+_, _<_}
+use native.Mathlib.Omega.{arith}
+use lib.ListN.{length}
+use denote.Ref.{now}
+use borrow.Author.Tests.{lt-ltb, le-ltb}
+use Rattle.s2xv2.specs.Encode.{encodedLength}
+use Rattle.s2xv2.specs.Length.{lengthTold}
+use borrow.Author.Needs.{needs}
+use Rattle.writer.proofs.serialized_len.Statement.{statement}
+use Rattle.writer.proofs.serialized_len.Tie as tie
+
+inconsistency-requires : tie.Need-inconsistency-requires
+inconsistency-requires c κs = search needs
+
+returns : tie.Need-returns
+unfolding lengthTold encodedLength
+returns c =
+    let h : 0 < c .before .inconsistency .result = omega (arith, c .if1 .taken) in
+    simp (sym (c .before .inconsistency .ensures), lt-ltb _ _ h)
+
+parts-len-requires : tie.Need-parts-len-requires
+parts-len-requires c κs = search needs
+
+add-need : tie.Need-add-need
+add-need c = search needs
+
+saturated-requires : tie.Need-saturated-requires
+saturated-requires c κs = search needs
+
+returns-2 : tie.Need-returns-2
+unfolding lengthTold encodedLength
+returns-2 c =
+    simp (
+      sym (c .before .before .before .before .inconsistency .ensures) ∙ c .before .before .before .if1 .left,
+      sym (c .before .before .parts-len .ensures .0),
+      lt-ltb _ _ (c .before .if2 .taken),
+      c .saturated .ensures,
+    )
+
+returns-3 : tie.Need-returns-3
+unfolding lengthTold encodedLength
+returns-3 c =
+    simp (
+      sym (c .before .before .before .inconsistency .ensures) ∙ c .before .before .if1 .left,
+      sym (c .before .parts-len .ensures .0),
+      le-ltb _ _ (c .if2 .left),
+    )
+
+pub serialized-len-spec : {M : Type 1} → statement M
+serialized-len-spec =
+    tie.close
+    (tie.spec
+    inconsistency-requires
+    returns
+    parts-len-requires
+    add-need
+    saturated-requires
+    returns-2
+    returns-3)
