@@ -8,3 +8,4 @@ pub mod Whole
 pub mod Round
 pub mod Back
 pub mod Domain
+pub mod Written

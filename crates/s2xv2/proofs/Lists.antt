@@ -50,6 +50,15 @@ pub clear-first : (p : ℕ) (ts : List Bool) → Clear ts → firstFrom p ts ≡
 clear-first p [] h = refl
 clear-first p (t ∷ ts) h = simp (h .0) (clear-first (suc p) ts (h .1))
 
+-- parts of a list of which none holds
+pub clear-left : (ts us : List Bool) → Clear (ts ++ us) → Clear ts
+clear-left [] us h = tt
+clear-left (t ∷ ts) us h = (h .0, clear-left ts us (h .1))
+
+pub clear-right : (ts us : List Bool) → Clear (ts ++ us) → Clear us
+clear-right [] us h = h
+clear-right (t ∷ ts) us h = clear-right ts us (h .1)
+
 -- ---- tests that fail
 
 same-flag : (a b : Bool) → differ a b ≡ false → a ≡ b

@@ -9,7 +9,7 @@ use native.Mathlib.Omega.{arith}
 use native.Mathlib.Nat.{le-refl}
 use lib.ListN.{length, drop, getD}
 use lib.Dec.{ltb, eqb}
-use borrow.Author.Tests.{lt-ltb, le-ltb, ltb-true, ltb-false}
+use borrow.Author.Tests.{lt-ltb, le-ltb, ltb-true, ltb-false, eq-eqb}
 use Rattle.wire.specs.Flags.{when, isOne, and}
 use Rattle.s2xv2.specs.Table144c.{modeOf, hasSelector, hasTimeslice, hasSuperframe}
 use Rattle.s2xv2.specs.Answer.{numbers, saturated}
@@ -64,7 +64,7 @@ core-first s k = omega arith
 
 -- ---- the answer
 
-refused-number : (why : Refusal) → eqb (numberOf (numbers why)) 0 ≡ false
+pub refused-number : (why : Refusal) → eqb (numberOf (numbers why)) 0 ≡ false
 refused-number (R.Short place need have) = refl
 refused-number (R.Long n) = refl
 refused-number (R.Inconsistent place) = refl
@@ -73,6 +73,9 @@ refused-number (R.Room need have) = refl
 refused-number R.Slot = refl
 refused-number (R.NoFit size) = refl
 refused-number R.OtherSize = refl
+
+pub refused : (why : Refusal) → numberOf (numbers why) ≡ 0 → ⊥
+refused why e = let z : false ≡ true = sym (refused-number why) ∙ eq-eqb _ 0 e in let k : _≡_ {A = ℕ} 0 1 = cc in omega arith
 
 module _ (s : List ℕ) where
   pub told-long : 4096 < length s → readTold s ≡ 2 ∷ saturated (length s) ∷ []

@@ -82,7 +82,6 @@ returns : tie.Need-returns
 unfolding bondParts
 returns c =
     let a = c .before .before .before .before .before .before .before .before .before .before .before .before .before .before .before .before .before .args in
-    let h = narrow-if _ 1 _ (c .before .before .before .before .before .before .before .before .before .before .before .before .before .before .before .before .before .pre .1 .0) (c .before .before .before .before .before .before .before .before .before .before .before .before .before .before .before .if1 .taken) in
     let e₁ = rw (c .before .before .before .before .before .before .before .before .before .before .before .before .bond-header .ensures, c .before .before .before .before .before .before .before .before .before .before .before .before .before .less-one .ensures) at (c .before .before .before .before .before .before .before .before .before .before .before .put .ensures) in
     let e₂ = c .before .before .before .before .before .before .before .put-32 .ensures in
     let e₃ = c .before .before .put-322 .ensures in
