@@ -1,4 +1,4 @@
--- Laws of the tests, of the bonds that list B passes, and of the parts one after the other.
+-- Laws of the bonds that list B passes, and of the parts one after the other.
 -- Assumes nothing.
 use mathlib.Core.Path.{_≡_, refl, sym, ap, _∙_}
 use mathlib.Core.List.{List, [], _∷_, _++_}
@@ -7,7 +7,6 @@ use Prim.Native.Nat.{ℕ, zero, suc, _+_, _≤_, _<_}
 use native.Mathlib.Nat.{add-zero}
 use native.Mathlib.Omega.{arith}
 use lib.ListN.{length}
-use Rattle.wire.specs.Flags.{and}
 use Rattle.wire.specs.Widths.{pack}
 use Rattle.wire.specs.Parts.{Part, bytesOf, sizes}
 use Rattle.wire.proofs.Parts.{Whole, bytesOf-append, bytesOf-tail, sizes-append, length-bytesOf}
@@ -15,14 +14,6 @@ use Rattle.s2xv2.specs.Table144b as T
 use Rattle.s2xv2.specs.Encode.{lessOne, bondParts, coreValues, streamOf, scramblingOf, timesliceOf, bondOf, superframeOf, partsOf, encode}
 use Rattle.s2xv2.specs.declared.record.S2Xv2SatelliteDeliverySystem.{S2Xv2SatelliteDeliverySystem}
 use Rattle.s2xv2.proofs.Whole.{bond-size}
-
-pub and-false : (t : Bool) → and t false ≡ false
-and-false true = refl
-and-false false = refl
-
-pub and-true : (t : Bool) → and t true ≡ t
-and-true true = refl
-and-true false = refl
 
 -- ---- a count that list B passes is 1 or 2
 

@@ -6,7 +6,6 @@ ghost use Rattle.wire.specs.Parts.{sizes};
 ghost use Rattle.s2xv2.specs.Options.{isSome8, selected};
 ghost use Rattle.s2xv2.specs.Read.{only};
 ghost use Rattle.s2xv2.specs.Encode.{superframeParts, partsOf};
-use crate::list_a::is_selected;
 use s2xv2::option::OptionBool;
 use s2xv2::option::OptionU8;
 use s2xv2::record::S2Xv2SatelliteDeliverySystem;
@@ -26,7 +25,7 @@ fn byte_len(v: OptionU8) -> usize
 fn scrambling_len(selector: OptionBool) -> usize
     ensures { λ n. ⌜ (n ≡ only (selected selector) 3) × (n ≤ 3) ⌝ }
 {
-    if is_selected(selector) { 3 } else { 0 }
+    if selector.is_set() { 3 } else { 0 }
 }
 
 // The bonds, whatever their count.

@@ -9,14 +9,14 @@ ghost use Rattle.s2xv2.specs.ListB.{listB};
 ghost use Rattle.s2xv2.specs.Length.{lengthTold};
 ghost use Rattle.s2xv2.specs.Write.{writeTold, written};
 ghost use Rattle.s2xv2.proofs.Lists.{Clear};
+use lists::list_a::inconsistency;
+use lists::list_b::unwritable;
 use s2xv2::answer::Answer;
 use s2xv2::answer::Refusal;
 use s2xv2::answer::saturated;
 use s2xv2::record::S2Xv2SatelliteDeliverySystem;
 
 mod length;
-mod list_a;
-mod list_b;
 mod parts;
 mod store;
 
@@ -25,7 +25,7 @@ mod store;
 pub fn serialized_len(r: S2Xv2SatelliteDeliverySystem, reserved_tail: &[u8]) -> Answer
     ensures { λ a. ⌜ told a ≡ lengthTold r (now («reserved_tail» .entry)) ⌝ }
 {
-    let place = list_a::inconsistency(r);
+    let place = inconsistency(r);
     if place != 0 {
         return Answer::Refused(Refusal::Inconsistent { place });
     }
@@ -46,7 +46,7 @@ fn put_all(buf: &mut [u8], r: S2Xv2SatelliteDeliverySystem, tail: &[u8])
 {
     let stream = r.input_stream_identifier;
     let selector = r.scrambling_sequence_selector;
-    let scrambled = list_a::is_selected(selector);
+    let scrambled = selector.is_set();
     let index = r.scrambling_sequence_index;
     let timeslice = r.timeslice_number;
     let ids = r.secondary_delivery_system_ids;
@@ -87,7 +87,7 @@ pub fn serialize_into(
     if have < need {
         return Answer::Refused(Refusal::Room { need, have });
     }
-    let place = list_b::unwritable(r);
+    let place = unwritable(r);
     if place != 0 {
         return Answer::Refused(Refusal::Field { place });
     }

@@ -17,13 +17,12 @@ ghost use Rattle.s2xv2.specs.ListB.{wide, coreB, superframeB};
 ghost use Rattle.s2xv2.proofs.Lists.{Clear};
 ghost use Rattle.writer.specs.Bytes.{flagBytes, blockBytes};
 ghost use Rattle.s2xv2.specs.declared.superframe.OptionSuperframe.the-variants.{Some};
-use crate::list_a::is_selected;
-use crate::list_b::less_one;
-use crate::list_b::nibble;
 use crate::store::copy;
 use crate::store::put;
 use crate::store::put_24;
 use crate::store::put_32;
+use lists::list_b::less_one;
+use lists::list_b::nibble;
 use s2xv2::option::OptionBool;
 use s2xv2::option::OptionU8;
 use s2xv2::option::OptionU32;
@@ -115,15 +114,6 @@ pub(crate) fn put_byte(buf: &mut [u8], p: usize, v: OptionU8) -> usize
     }
 }
 
-fn or_zero(v: OptionU32) -> u32
-    ensures { λ r. ⌜ r ≡ orZero32 v ⌝ }
-{
-    match v {
-        OptionU32::Some(n) => n,
-        OptionU32::None => 0,
-    }
-}
-
 // reserved 6, scrambling_sequence_index 18.
 fn index_word(reserved: u8, index: u32) -> u32
     requires { ⌜ (reserved < 64) × (index < 262144) ⌝ }
@@ -144,7 +134,7 @@ pub(crate) fn put_scrambling(
     ensures { λ q. ⌜ (q ≡ p + sizes (scramblingParts there reserved index)) × (now (buf .exit) ≡ stored (now (buf .entry)) p (bytesOf (scramblingParts there reserved index) [])) ⌝ }
 {
     if there {
-        put_24(buf, p, index_word(reserved, or_zero(index)));
+        put_24(buf, p, index_word(reserved, index.or_zero()));
         p + 3
     } else {
         p
@@ -247,7 +237,7 @@ fn put_plan(buf: &mut [u8], p: usize, there: bool, plan: OptionU32) -> usize
     ensures { λ q. ⌜ (q ≡ p + sizes (planParts there plan)) × (now (buf .exit) ≡ stored (now (buf .entry)) p (bytesOf (planParts there plan) [])) ⌝ }
 {
     if there {
-        put_32(buf, p, or_zero(plan));
+        put_32(buf, p, plan.or_zero());
         p + 4
     } else {
         p

@@ -17,8 +17,8 @@ use borrow.Author.Needs.{needs}
 use Rattle.writer.proofs.put_all.Statement.{statement}
 use Rattle.writer.proofs.put_all.Tie as tie
 
-is-selected-requires : tie.Need-is-selected-requires
-is-selected-requires c κs = search needs
+is-set-requires : tie.Need-is-set-requires
+is-set-requires c κs = search needs
 
 put-core-requires : tie.Need-put-core-requires
 unfolding encodedLength
@@ -47,7 +47,7 @@ unfolding encodedLength
 put-scrambling-requires c κs =
     let r = c .before .before .before .before .before .before .before .before .before .before .before .before .before .args .r in
     let b = clear-right (coreB r) (scramblingB r ++ (bondB r ++ superframeB (r .superframe))) (c .before .before .before .before .before .before .before .before .before .before .before .before .before .pre .1) in
-    rw (c .before .before .before .before .before .before .before .before .before .before .is-selected .ensures) (
+    rw (c .before .before .before .before .before .before .before .before .before .before .is-set .ensures) (
       omega (
         arith,
         parts-split (c .before .before .before .before .before .before .before .before .before .before .before .before .before .args .r),
@@ -70,7 +70,7 @@ put-byte-requires-2 c κs =
       c .before .before .before .before .before .before .before .put-byte .kept .0,
       c .before .before .before .before .before .before .before .before .before .before .before .put-core .kept .0,
       c .before .before .before .before .before .before .before .put-byte .ensures .0,
-      rw (c .before .before .before .before .before .before .before .before .before .before .before .before .before .before .is-selected .ensures) at (c .before .before .before .put-scrambling .ensures .0),
+      rw (c .before .before .before .before .before .before .before .before .before .before .before .before .before .before .is-set .ensures) at (c .before .before .before .put-scrambling .ensures .0),
     )
 
 put-bonds-requires : tie.Need-put-bonds-requires
@@ -87,7 +87,7 @@ put-bonds-requires c κs =
         c .before .before .before .before .before .before .before .before .before .before .before .before .put-byte .kept .0,
         c .before .before .before .before .before .before .before .before .before .before .before .before .before .before .before .before .put-core .kept .0,
         c .before .before .before .before .before .before .before .before .before .before .before .before .put-byte .ensures .0,
-        rw (c .before .before .before .before .before .before .before .before .before .before .before .before .before .before .before .before .before .before .before .is-selected .ensures) at (c .before .before .before .before .before .before .before .before .put-scrambling .ensures .0),
+        rw (c .before .before .before .before .before .before .before .before .before .before .before .before .before .before .before .before .before .before .before .is-set .ensures) at (c .before .before .before .before .before .before .before .before .put-scrambling .ensures .0),
         c .before .before .before .before .put-byte2 .ensures .0,
       ),
       (b .0, b .1 .0),
@@ -107,7 +107,7 @@ put-superframe-requires c κs =
         c .before .before .before .before .before .before .before .before .before .before .before .before .before .before .before .before .put-byte .kept .0,
         c .before .before .before .before .before .before .before .before .before .before .before .before .before .before .before .before .before .before .before .before .put-core .kept .0,
         c .before .before .before .before .before .before .before .before .before .before .before .before .before .before .before .before .put-byte .ensures .0,
-        rw (c .before .before .before .before .before .before .before .before .before .before .before .before .before .before .before .before .before .before .before .before .before .before .before .is-selected .ensures) at (c .before .before .before .before .before .before .before .before .before .before .before .before .put-scrambling .ensures .0),
+        rw (c .before .before .before .before .before .before .before .before .before .before .before .before .before .before .before .before .before .before .before .before .before .before .before .is-set .ensures) at (c .before .before .before .before .before .before .before .before .before .before .before .before .put-scrambling .ensures .0),
         c .before .before .before .before .before .before .before .before .put-byte2 .ensures .0,
         c .before .before .before .put-bonds .ensures .0,
       ),
@@ -128,7 +128,7 @@ copy-requires c κs =
       c .before .before .before .before .before .before .before .before .before .before .before .before .before .before .before .before .before .before .before .before .put-byte .kept .0,
       c .before .before .before .before .before .before .before .before .before .before .before .before .before .before .before .before .before .before .before .before .before .before .before .before .put-core .kept .0,
       c .before .before .before .before .before .before .before .before .before .before .before .before .before .before .before .before .before .before .before .before .put-byte .ensures .0,
-      rw (c .before .before .before .before .before .before .before .before .before .before .before .before .before .before .before .before .before .before .before .before .before .before .before .before .before .before .before .is-selected .ensures) at (c .before .before .before .before .before .before .before .before .before .before .before .before .before .before .before .before .put-scrambling .ensures .0),
+      rw (c .before .before .before .before .before .before .before .before .before .before .before .before .before .before .before .before .before .before .before .before .before .before .before .before .before .before .before .is-set .ensures) at (c .before .before .before .before .before .before .before .before .before .before .before .before .before .before .before .before .put-scrambling .ensures .0),
       c .before .before .before .before .before .before .before .before .before .before .before .before .put-byte2 .ensures .0,
       c .before .before .before .before .before .before .before .put-bonds .ensures .0,
       c .before .before .before .put-superframe .ensures .0,
@@ -153,7 +153,7 @@ returns c =
     let t = now (a .tail) in
     let e₁ = c .before .before .before .before .before .before .before .before .before .before .before .before .before .before .before .before .before .before .before .before .before .before .before .before .before .before .before .put-core .ensures in
     let e₂ = c .before .before .before .before .before .before .before .before .before .before .before .before .before .before .before .before .before .before .before .before .before .before .before .put-byte .ensures in
-    let e₃ = rw (c .before .before .before .before .before .before .before .before .before .before .before .before .before .before .before .before .before .before .before .before .before .before .before .before .before .before .before .before .before .before .is-selected .ensures) at (c .before .before .before .before .before .before .before .before .before .before .before .before .before .before .before .before .before .before .before .put-scrambling .ensures) in
+    let e₃ = rw (c .before .before .before .before .before .before .before .before .before .before .before .before .before .before .before .before .before .before .before .before .before .before .before .before .before .before .before .before .before .before .is-set .ensures) at (c .before .before .before .before .before .before .before .before .before .before .before .before .before .before .before .before .before .before .before .put-scrambling .ensures) in
     let e₄ = c .before .before .before .before .before .before .before .before .before .before .before .before .before .before .before .put-byte2 .ensures in
     let e₅ = c .before .before .before .before .before .before .before .before .before .before .put-bonds .ensures in
     let e₆ = c .before .before .before .before .before .before .put-superframe .ensures in
@@ -176,7 +176,7 @@ pub put-all-spec : {M : Type 1} → statement M
 put-all-spec =
     tie.close
     (tie.spec
-    is-selected-requires
+    is-set-requires
     put-core-requires
     put-byte-requires
     put-scrambling-requires

@@ -1,0 +1,3 @@
+// Lists A and B: what is refused of a record before it is written. Every function answers for every record.
+pub mod list_a;
+pub mod list_b;

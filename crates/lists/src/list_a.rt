@@ -1,0 +1,142 @@
+// List A: a record that contradicts itself.
+ghost use mathlib.Core.Path.{_≡_};
+ghost use lib.Dec.{eqb, ltb};
+ghost use Rattle.wire.specs.Flags.{and, not, differ};
+ghost use Rattle.s2xv2.specs.Options.{isSomeBool, isSome8, isSome32, isSomeSuperframe};
+ghost use Rattle.s2xv2.specs.ListA.{firstFrom, misnamed, superframeA, inconsistency};
+use s2xv2::mode::S2Xv2Mode;
+use s2xv2::option::OptionBool;
+use s2xv2::option::OptionU8;
+use s2xv2::option::OptionU32;
+use s2xv2::record::S2Xv2SatelliteDeliverySystem;
+use s2xv2::superframe::OptionSuperframe;
+
+fn below(v: u8, n: u8) -> bool
+    ensures { λ r. ⌜ r ≡ ltb v n ⌝ }
+{
+    v < n
+}
+
+// `Reserved` holds a code that has a variant of its own.
+fn is_misnamed(mode: S2Xv2Mode) -> bool
+    ensures { λ r. ⌜ r ≡ misnamed mode ⌝ }
+{
+    match mode {
+        S2Xv2Mode::Reserved0 => false,
+        S2Xv2Mode::S2X => false,
+        S2Xv2Mode::S2XTimeSlicing => false,
+        S2Xv2Mode::Reserved3 => false,
+        S2Xv2Mode::S2XSuperframe => false,
+        S2Xv2Mode::S2XSuperframeTimeSlicing => false,
+        S2Xv2Mode::Reserved(v) => below(v, 6),
+    }
+}
+
+fn negated(b: bool) -> bool
+    ensures { λ r. ⌜ r ≡ not b ⌝ }
+{
+    if b { false } else { true }
+}
+
+// A value is there though it should not be, or is not though it should.
+fn u8_differs(v: OptionU8, due: bool) -> bool
+    ensures { λ r. ⌜ r ≡ differ (isSome8 v) due ⌝ }
+{
+    match v {
+        OptionU8::Some(_) => negated(due),
+        OptionU8::None => due,
+    }
+}
+
+fn bool_differs(v: OptionBool, due: bool) -> bool
+    ensures { λ r. ⌜ r ≡ differ (isSomeBool v) due ⌝ }
+{
+    match v {
+        OptionBool::Some(_) => negated(due),
+        OptionBool::None => due,
+    }
+}
+
+fn superframe_differs(v: OptionSuperframe, due: bool) -> bool
+    ensures { λ r. ⌜ r ≡ differ (isSomeSuperframe v) due ⌝ }
+{
+    match v {
+        OptionSuperframe::Some(_) => negated(due),
+        OptionSuperframe::None => due,
+    }
+}
+
+// A value is there though its selector is not set.
+fn u8_stray(v: OptionU8, set: bool) -> bool
+    ensures { λ r. ⌜ r ≡ and (isSome8 v) (not set) ⌝ }
+{
+    match v {
+        OptionU8::Some(_) => negated(set),
+        OptionU8::None => false,
+    }
+}
+
+fn u32_stray(v: OptionU32, set: bool) -> bool
+    ensures { λ r. ⌜ r ≡ and (isSome32 v) (not set) ⌝ }
+{
+    match v {
+        OptionU32::Some(_) => negated(set),
+        OptionU32::None => false,
+    }
+}
+
+// Bonds are counted though channel_bond does not announce them.
+fn bonds_stray(count: u8, bond: u8) -> bool
+    ensures { λ r. ⌜ r ≡ and (ltb 0 count) (not (eqb bond 1)) ⌝ }
+{
+    if 0 < count { negated(bond == 1) } else { false }
+}
+
+// The first place of list A that is of the superframe block, or 0.
+fn superframe_place(superframe: OptionSuperframe) -> u8
+    ensures { λ r. ⌜ r ≡ firstFrom 8 (superframeA superframe) ⌝ }
+{
+    match superframe {
+        OptionSuperframe::Some(f) => {
+            let sffi = f.sffi;
+            let plan_id = f.beamhopping_time_plan_id;
+            if u8_stray(sffi, f.sffi_selector) {
+                8
+            } else if u32_stray(plan_id, f.beam_hopping_time_plan_selector) {
+                9
+            } else {
+                0
+            }
+        }
+        OptionSuperframe::None => 0,
+    }
+}
+
+// The first place of list A that holds of the record, or 0 for a consistent record.
+pub fn inconsistency(r: S2Xv2SatelliteDeliverySystem) -> u8
+    ensures { λ p. ⌜ p ≡ inconsistency r ⌝ }
+{
+    let mode = r.s2xv2_mode;
+    let stream = r.input_stream_identifier;
+    let selector = r.scrambling_sequence_selector;
+    let index = r.scrambling_sequence_index;
+    let timeslice = r.timeslice_number;
+    let superframe = r.superframe;
+    if is_misnamed(mode) {
+        1
+    } else if u8_differs(stream, r.multiple_input_stream_flag) {
+        2
+    } else if bool_differs(selector, mode.has_scrambling_selector()) {
+        3
+    } else if u32_stray(index, selector.is_set()) {
+        4
+    } else if u8_differs(timeslice, mode.has_timeslice()) {
+        5
+    } else if bonds_stray(r.num_channel_bonds, r.channel_bond) {
+        6
+    } else if superframe_differs(superframe, mode.has_superframe()) {
+        7
+    } else {
+        superframe_place(superframe)
+    }
+}
