@@ -9,7 +9,15 @@ use lib.Dec.{eqb}
 use Rattle.wire.specs.Flags.{and}
 use Rattle.s2xv2.specs.Table144c.{modeOf}
 use Rattle.s2xv2.specs.Default.{defaultRecord}
-use Rattle.s2xv2.specs.Read.{presentIn, recordAt, superframeAt, bodySize, readTold, readOf}
+use Rattle.s2xv2.specs.Read.{presentIn, recordFrom, recordAt, superframeAt, bodySize, readTold, readOf}
+use Rattle.s2xv2.specs.Encode.{coreValues, byteParts, scramblingParts, bondParts, superframeParts, partsOf, encode, encodedLength}
+use Rattle.s2xv2.specs.ListA.{inconsistency}
+use Rattle.s2xv2.specs.ListB.{unwritable}
+use Rattle.s2xv2.specs.Write.{writeTold}
+use Rattle.s2xv2.specs.declared.record.S2Xv2SatelliteDeliverySystem.{S2Xv2SatelliteDeliverySystem}
+use Rattle.s2xv2.specs.declared.superframe.OptionSuperframe.the-variants as OS
+use Rattle.s2xv2.specs.declared.option.OptionU8.the-variants as O8
+use Rattle.s2xv2.specs.declared.option.OptionU32.the-variants as O32
 
 -- what is given and what is due, in numbers
 pub record Row : Type 0 where
@@ -55,6 +63,18 @@ read₁ n bs = readTold (body n bs) ++ (readOf (body n bs) .body .«reserved_zer
 abbrev readBonds : ℕ → List Byte → List ℕ
 readBonds n bs = readTold (body n bs) ++ (readOf (body n bs) .body .«num_channel_bonds» ∷ [])
 
+-- a record of zeros but for its satellite_id, and what its writing is answered, with room for all that a body may have
+abbrev satellite : ℕ → S2Xv2SatelliteDeliverySystem
+satellite n =
+    recordFrom (0 ∷ 0 ∷ 0 ∷ 0 ∷ 0 ∷ 0 ∷ 0 ∷ 0 ∷ 0 ∷ 0 ∷ 0 ∷ 0 ∷ n ∷ 0 ∷ 0 ∷ []) O8.None 0 O32.None O8.None 0 0 0 0 OS.None
+
+abbrev write : ℕ → List ℕ
+write n = writeTold (satellite n) [] 4096
+
+-- the body that document 01 prints, and the fields of its core
+abbrev printed : List ℕ
+printed = 0 ∷ 0 ∷ 0 ∷ 7 ∷ 0x10 ∷ 5 ∷ 3 ∷ 0 ∷ 0 ∷ 0x2A ∷ 0 ∷ 0xB7 ∷ 0x1B ∷ 0 ∷ 0 ∷ 0 ∷ 0x6B ∷ 0x6C ∷ 0 ∷ 0 ∷ 0 ∷ 0 ∷ 8 ∷ []
+
 abbrev pub table : List Row
 table =
     read 0 [] gives (1 ∷ 1 ∷ 18 ∷ 0 ∷ [])
@@ -67,9 +87,13 @@ table =
     ∷ readBonds 18 (5 is 0x08 ∷ []) gives (0 ∷ 18 ∷ 0 ∷ [])
     ∷ read 25 (4 is 0x40 ∷ []) gives (1 ∷ 7 ∷ 26 ∷ 25 ∷ [])
     ∷ read 26 (4 is 0x40 ∷ 19 is 0x40 ∷ []) gives (1 ∷ 8 ∷ 29 ∷ 26 ∷ [])
+    ∷ write 16777216 gives (4 ∷ 9 ∷ [])
+    ∷ write 16777215 gives (0 ∷ 18 ∷ [])
+    ∷ coreValues (readOf printed .body) gives (7 ∷ 1 ∷ 0 ∷ 0 ∷ 0 ∷ 0 ∷ 0 ∷ 1 ∷ 1 ∷ 0 ∷ 0 ∷ 3 ∷ 42 ∷ 12000000 ∷ 27500 ∷ [])
+    ∷ encode (readOf printed .body) [] gives printed
     ∷ []
 
 -- Every row of the table is right.
 pub cases : right table ≡ true
-unfolding readTold presentIn bodySize recordAt superframeAt defaultRecord modeOf
+unfolding readTold presentIn bodySize recordAt superframeAt defaultRecord modeOf writeTold inconsistency unwritable encodedLength encode partsOf byteParts scramblingParts bondParts superframeParts
 cases = refl

@@ -9,3 +9,4 @@ pub mod Round
 pub mod Back
 pub mod Domain
 pub mod Written
+pub mod Demand2

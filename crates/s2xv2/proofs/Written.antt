@@ -98,3 +98,37 @@ module _ (r : S2Xv2SatelliteDeliverySystem) (tail : List ℕ) where
   pub written-accepted : (buf : List ℕ) (n : ℕ) → 0 ∷ n ∷ [] ≡ writeTold r tail (length buf) → written r tail buf ≡ encode r tail ++ drop (encodedLength r tail) buf
   unfolding written
   written-accepted buf n e = simp (sym e)
+
+  -- ---- what the writer accepts
+
+  pub record Writable (room : ℕ) : Type 0 where
+    pub consistent : inconsistency r ≡ 0
+    pub within : encodedLength r tail ≤ 4096
+    pub fits : encodedLength r tail ≤ room
+    pub carried : unwritable r ≡ 0
+
+  pub accepted-writable : (room : ℕ) → numberOf (writeTold r tail room) ≡ 0 → Writable room
+  accepted-writable room z = first (ltb 0 (inconsistency r)) refl
+    where
+      never : (l : List ℕ) → writeTold r tail room ≡ l → (numberOf l ≡ 0 → ⊥) → Writable room
+      never l e f = absurd (f (ap numberOf (sym e) ∙ z))
+
+      fourth : (a : inconsistency r ≡ 0) (n : encodedLength r tail ≤ 4096) (h : encodedLength r tail ≤ room) (c : Bool) → ltb 0 (unwritable r) ≡ c → Writable room
+      fourth a n h true d = never _ (told-field a n room h (ltb-true _ _ d)) (λ y. omega arith)
+      fourth a n h false d = record { consistent = a; within = n; fits = h; carried = omega (arith, ltb-false 0 (unwritable r) d) }
+
+      third : (a : inconsistency r ≡ 0) (n : encodedLength r tail ≤ 4096) (c : Bool) → ltb room (encodedLength r tail) ≡ c → Writable room
+      third a n true d = never _ (told-room a n room (ltb-true _ _ d)) (λ y. omega arith)
+      third a n false d = fourth a n (ltb-false _ _ d) (ltb 0 (unwritable r)) refl
+
+      second : inconsistency r ≡ 0 → (c : Bool) → ltb 4096 (encodedLength r tail) ≡ c → Writable room
+      second a true d =
+          let e = long-length a (ltb-true _ _ d) in
+          never _ (refused-alike room (λ y. let k : _≡_ {A = ℕ} 2 0 = ap numberOf (sym e) ∙ y in omega arith) ∙ e) (λ y. omega arith)
+      second a false d = third a (ltb-false _ _ d) (ltb room (encodedLength r tail)) refl
+
+      first : (c : Bool) → ltb 0 (inconsistency r) ≡ c → Writable room
+      first true d =
+          let e = inconsistent-length (ltb-true _ _ d) in
+          never _ (refused-alike room (λ y. let k : _≡_ {A = ℕ} 3 0 = ap numberOf (sym e) ∙ y in omega arith) ∙ e) (λ y. omega arith)
+      first false d = second (omega (arith, ltb-false 0 (inconsistency r) d)) (ltb 4096 (encodedLength r tail)) refl
