@@ -87,9 +87,9 @@ pub fn serialize_into(
     if have < need {
         return Answer::Refused(Refusal::Room { need, have });
     }
-    let place = unwritable(r);
-    if place != 0 {
-        return Answer::Refused(Refusal::Field { place });
+    let wide = unwritable(r);
+    if wide != 0 {
+        return Answer::Refused(Refusal::Field { place: wide });
     }
     put_all(buf, r, reserved_tail);
     Answer::Accepted(need)
