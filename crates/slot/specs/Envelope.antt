@@ -1,0 +1,32 @@
+-- Descriptors as bytes: `tag` and `extension` stand in front of a body (`envelope`, of `envelopeSize` bytes more), `stuffingTag` and `filler`
+-- make the stuffing descriptor of EN 300 468 (`stuffing`). Assumes nothing.
+use Prim.Native.Nat.{ℕ, zero, suc, _+_}
+use mathlib.Core.List.{List, [], _∷_}
+use lib.ListN.{length, replicate}
+
+-- descriptor_tag and descriptor_tag_extension of S2Xv2
+abbrev pub tag : ℕ
+tag = 0x7F
+
+abbrev pub extension : ℕ
+extension = 0x24
+
+-- the tag of a stuffing descriptor, and what stands in one
+abbrev pub stuffingTag : ℕ
+stuffingTag = 0x42
+
+abbrev pub filler : ℕ
+filler = 0xFF
+
+-- the descriptor of a body: tag, length, extension, body
+abbrev pub envelopeSize : ℕ
+envelopeSize = 3
+
+abbrev pub envelope : List ℕ → List ℕ
+envelope body = tag ∷ suc (length body) ∷ extension ∷ body
+
+-- m bytes that are one stuffing descriptor; one byte is too few for a descriptor, and no slot has one left
+abbrev pub stuffing : ℕ → List ℕ
+stuffing zero = []
+stuffing (suc zero) = stuffingTag ∷ []
+stuffing (suc (suc m)) = stuffingTag ∷ m ∷ replicate m filler

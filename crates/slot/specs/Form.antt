@@ -1,0 +1,42 @@
+-- When a slot is in good form (document 01, 'Slot and job'): `goodForm`, made of `goodSize`, `goodFirst` and `goodRest`. `byteAt` is a byte of
+-- a slot, `all` says that every test of a list holds. Assumes nothing.
+use Prim.Native.Nat.{ℕ, _+_}
+use mathlib.Core.List.{List, [], _∷_}
+use mathlib.Core.Bool.{Bool, true, _&&_, _||_}
+use lib.ListN.{length, getD}
+use lib.Dec.{leb, eqb}
+use Rattle.slot.specs.Envelope.{tag, extension, stuffingTag}
+
+-- the byte at a place, 0 behind the end
+abbrev pub byteAt : List ℕ → ℕ → ℕ
+byteAt s i = getD s i 0
+
+-- every test of a list holds
+abbrev pub all : List Bool → Bool
+all [] = true
+all (b ∷ bs) = b && all bs
+
+-- n from 21 to 257
+unfoldable pub goodSize : ℕ → Bool
+goodSize n = all (leb 21 n ∷ leb n 257 ∷ [])
+
+-- the first descriptor is 0x42, or 0x7F with length at least 1 and third byte 0x24
+abbrev pub oursTests : List ℕ → List Bool
+oursTests s = eqb (byteAt s 0) tag ∷ leb 1 (byteAt s 1) ∷ eqb (byteAt s 2) extension ∷ []
+
+unfoldable pub goodFirst : List ℕ → Bool
+goodFirst s = eqb (byteAt s 0) stuffingTag || all (oursTests s)
+
+-- a descriptor that ends at e ends the slot, or one stuffing descriptor behind it does
+abbrev pub stuffedTests : List ℕ → ℕ → List Bool
+stuffedTests s e = eqb (byteAt s e) stuffingTag ∷ eqb (e + 2 + byteAt s (e + 1)) (length s) ∷ []
+
+unfoldable pub goodRest : List ℕ → ℕ → Bool
+goodRest s e = eqb e (length s) || all (stuffedTests s e)
+
+-- GOOD FORM
+abbrev pub formTests : List ℕ → List Bool
+formTests s = goodSize (length s) ∷ goodFirst s ∷ goodRest s (byteAt s 1 + 2) ∷ []
+
+unfoldable pub goodForm : List ℕ → Bool
+goodForm s = all (formTests s)
