@@ -1,3 +1,4 @@
 pub mod Tests
 pub mod Stuffing
 pub mod GoodForm
+pub mod Emptying

@@ -1,30 +1,64 @@
 -- A stuffing descriptor: its length, and the byte at each place. Its two first bytes stand there as written, and the rest is one byte repeated.
 -- Assumes nothing.
-use mathlib.Core.Path.{_≡_, refl, ap}
-use Prim.Native.Nat.{ℕ, zero, suc, _-_, _<_}
-use native.Mathlib.Nat.{not-suc-le-zero, le-of-suc-le-suc}
+use mathlib.Core.Path.{_≡_, refl, sym, ap, _∙_}
+use mathlib.Core.List.{List, [], _++_, append-nil}
+use Prim.Native.Nat.{ℕ, zero, suc, _+_, _-_, _≤_, _<_}
+use native.Mathlib.Nat.{not-suc-le-zero, le-of-suc-le-suc, zero-add}
 use native.Mathlib.Omega.{arith}
-use lib.ListN.{length, getD, length-replicate, getD-replicate}
+use native.Mathlib.Numerals.{add-one}
+use lib.ListN.{length, getD, set, take, drop, length-replicate, getD-replicate, drop-of-length-le}
+use lib.Seq.{paste, paste-suc, length-paste, take-all}
 use Rattle.slot.specs.Envelope.{stuffingTag, filler, stuffing}
 
 pub stuffing-length : (m : ℕ) → length (stuffing m) ≡ m
+unfolding stuffing
 stuffing-length zero = refl
 stuffing-length (suc zero) = refl
 stuffing-length (suc (suc m)) = ap (λ (k : ℕ). suc (suc k)) (length-replicate m filler)
 
-pub stuffing-tag : (m : ℕ) → 0 < m → getD (stuffing m) 0 0 ≡ stuffingTag
-stuffing-tag zero h = absurd (not-suc-le-zero h)
-stuffing-tag (suc zero) h = refl
-stuffing-tag (suc (suc m)) h = refl
+tag-at : (m : ℕ) → 0 < m → getD (stuffing m) 0 0 ≡ stuffingTag
+unfolding stuffing
+tag-at zero h = absurd (not-suc-le-zero h)
+tag-at (suc zero) h = refl
+tag-at (suc (suc m)) h = refl
 
-pub stuffing-size : (m : ℕ) → 1 < m → getD (stuffing m) 1 0 ≡ m - 2
-stuffing-size zero h = absurd (not-suc-le-zero h)
-stuffing-size (suc zero) h = absurd (not-suc-le-zero (le-of-suc-le-suc h))
-stuffing-size (suc (suc m)) h = omega arith
+size-at : (m : ℕ) → 1 < m → getD (stuffing m) 1 0 ≡ m - 2
+unfolding stuffing
+size-at zero h = absurd (not-suc-le-zero h)
+size-at (suc zero) h = absurd (not-suc-le-zero (le-of-suc-le-suc h))
+size-at (suc (suc m)) h = omega arith
+
+-- the first byte, the second, and those behind
+pub stuffing-tag : (m i : ℕ) → i ≡ 0 → 0 < m → getD (stuffing m) i 0 ≡ stuffingTag
+stuffing-tag m i e h = rw e (tag-at m h)
+
+pub stuffing-size : (m i : ℕ) → i ≡ 1 → 1 < m → getD (stuffing m) i 0 ≡ m - 2
+stuffing-size m i e h = rw e (size-at m h)
 
 pub stuffing-fill : (m i : ℕ) → 1 < i → i < m → getD (stuffing m) i 0 ≡ filler
+unfolding stuffing
 stuffing-fill m zero l h = absurd (not-suc-le-zero l)
 stuffing-fill m (suc zero) l h = absurd (not-suc-le-zero (le-of-suc-le-suc l))
 stuffing-fill zero (suc (suc i)) l h = absurd (not-suc-le-zero h)
 stuffing-fill (suc zero) (suc (suc i)) l h = absurd (not-suc-le-zero (le-of-suc-le-suc h))
 stuffing-fill (suc (suc m)) (suc (suc i)) l h = getD-replicate m i filler 0 (le-of-suc-le-suc (le-of-suc-le-suc h))
+
+-- ---- a slot over which the first i bytes of a stuffing descriptor are laid, as a loop lays them
+module _ (s : List ℕ) (n : ℕ) (full : length s ≡ n) where
+  long : length (stuffing n) ≡ n
+  long = stuffing-length n
+
+  pub over-length : (i : ℕ) → i ≤ n → length (paste s 0 (stuffing n) i) ≡ n
+  over-length i h = length-paste s 0 (stuffing n) i (omega (arith, full)) (rw long h) ∙ full
+
+  pub over-more : (i : ℕ) → i < n → set (paste s 0 (stuffing n) i) i (getD (stuffing n) i 0) ≡ paste s 0 (stuffing n) (i + 1)
+  over-more i h =
+      ap (λ (k : ℕ). set (paste s 0 (stuffing n) i) k (getD (stuffing n) i 0)) (sym (zero-add i))
+      ∙ paste-suc s 0 (stuffing n) i 0 (omega (arith, full)) (rw long h)
+      ∙ ap (paste s 0 (stuffing n)) (sym (add-one i))
+
+  pub over-all : (i : ℕ) → i ≡ n → paste s 0 (stuffing n) i ≡ stuffing n
+  over-all i e =
+      let d : drop (0 + i) s ≡ [] = drop-of-length-le s {i = 0 + i} (omega (arith, full)) in
+      let t : take i (stuffing n) ≡ stuffing n = take-all i (stuffing n) (rw long (omega arith)) in
+      rw (d, t) (append-nil (stuffing n))

@@ -26,7 +26,7 @@ abbrev pub envelope : List ℕ → List ℕ
 envelope body = tag ∷ suc (length body) ∷ extension ∷ body
 
 -- m bytes that are one stuffing descriptor; one byte is too few for a descriptor, and no slot has one left
-abbrev pub stuffing : ℕ → List ℕ
+unfoldable pub stuffing : ℕ → List ℕ
 stuffing zero = []
 stuffing (suc zero) = stuffingTag ∷ []
 stuffing (suc (suc m)) = stuffingTag ∷ m ∷ replicate m filler

@@ -1,2 +1,5 @@
 pub mod Envelope
 pub mod Form
+pub mod Answer
+pub mod Read
+pub mod Empty

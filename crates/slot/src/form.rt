@@ -6,6 +6,7 @@ ghost use Rattle.slot.specs.Form.{goodSize, goodFirst, goodRest, goodFor
 use crate::envelope::TAG;
 use crate::envelope::EXTENSION;
 use crate::envelope::STUFFING_TAG;
+use crate::number::wide;
 
 // Whether a slot may have `n` bytes.
 pub fn is_size(n: usize) -> bool
@@ -18,13 +19,6 @@ pub fn is_size(n: usize) -> bool
         return false;
     }
     true
-}
-
-// A byte as a number.
-fn wide(x: u8) -> usize
-    ensures { λ r. ⌜ (r ≡ x) × (r < 256) ⌝ }
-{
-    x as usize
 }
 
 // Whether the first descriptor is stuffing, or one of ours.

@@ -1,0 +1,15 @@
+-- The empty call: `emptyTold` is its answer for a slot of n bytes, `emptied` the slot afterwards. Assumes nothing.
+use Prim.Native.Nat.{ℕ}
+use mathlib.Core.List.{List, [], _∷_}
+use lib.ListN.{length}
+use Rattle.wire.specs.Flags.{when}
+use Rattle.slot.specs.Envelope.{stuffing}
+use Rattle.slot.specs.Form.{goodSize}
+
+-- refused with 6 for a wrong n, and for nothing else
+unfoldable pub emptyTold : ℕ → List ℕ
+emptyTold n = when (goodSize n) (0 ∷ []) (6 ∷ [])
+
+-- 0x42, n - 2, then 0xFF, whatever stood there; a refused slot keeps its bytes
+unfoldable pub emptied : List ℕ → List ℕ
+emptied s = when (goodSize (length s)) (stuffing (length s)) s

@@ -1,0 +1,48 @@
+-- What a slot reads as: `shown`. It is `showsNone` for a slot out of form, `showsEmpty` for one whose first tag is stuffing's, else `showsBody` of
+-- `bodyIn` it, with the reader's answer `placed` in the slot. `ReadsAs` joins good form to what is shown. Assumes nothing.
+use Prim.Native.Nat.{ℕ, _+_, _-_}
+use mathlib.Core.Path.{_≡_}
+use mathlib.Core.Bool.{true}
+use mathlib.Core.List.{List, [], _∷_}
+use lib.ListN.{length, getD, take, drop}
+use lib.Dec.{eqb}
+use Rattle.wire.specs.Flags.{when}
+use Rattle.s2xv2.specs.Default.{defaultRecord}
+use Rattle.s2xv2.specs.Read.{Reading, numberOf, readOf, tailOf}
+use Rattle.slot.specs.Envelope.{stuffingTag, envelopeSize}
+use Rattle.slot.specs.Form.{byteAt, goodForm}
+
+-- the answer in numbers, the record, and the tail
+pub record Shown : Type 0 where
+  pub reading : Reading
+  pub tail : List ℕ
+
+-- no record and no tail: the Rust's Default, and the empty part
+abbrev pub without : List ℕ → Shown
+without told = record { reading = record { told = told; body = defaultRecord }; tail = [] }
+
+abbrev pub showsNone : Shown
+showsNone = without (6 ∷ [])
+
+abbrev pub showsEmpty : Shown
+showsEmpty = without (0 ∷ [])
+
+-- the reader's numbers for a body of so many bytes, where an accepted body's tail has its place from the slot's start, and its length
+abbrev pub placed : ℕ → List ℕ → List ℕ
+placed size told = when (eqb (numberOf told) 0) (0 ∷ (getD told 1 0 + envelopeSize) ∷ (size - getD told 1 0) ∷ []) told
+
+unfoldable pub showsBody : List ℕ → Shown
+showsBody body = record { reading = record { told = placed (length body) (readOf body .told); body = readOf body .body }; tail = tailOf body }
+
+-- the body of the first descriptor, if that is one of ours: behind tag, length and extension
+abbrev pub bodyIn : List ℕ → List ℕ
+bodyIn s = take (byteAt s 1 - 1) (drop envelopeSize s)
+
+-- WHAT A SLOT READS AS: 6, else empty, else the reader's answer for the body
+unfoldable pub shown : List ℕ → Shown
+shown s = when (goodForm s) (when (eqb (byteAt s 0) stuffingTag) showsEmpty (showsBody (bodyIn s))) showsNone
+
+-- the slot is in good form, and reads so
+pub record ReadsAs (s : List ℕ) (x : Shown) : Type 0 where
+  pub form : goodForm s ≡ true
+  pub reads : shown s ≡ x
