@@ -2,3 +2,4 @@ pub mod Tests
 pub mod Stuffing
 pub mod GoodForm
 pub mod Emptying
+pub mod Laws

@@ -1,7 +1,7 @@
 -- Descriptors as bytes: `tag` and `extension` stand in front of a body (`envelope`, of `envelopeSize` bytes more), `stuffingTag` and `filler`
--- make the stuffing descriptor of EN 300 468 (`stuffing`). Assumes nothing.
-use Prim.Native.Nat.{ℕ, zero, suc, _+_}
-use mathlib.Core.List.{List, [], _∷_}
+-- make the stuffing descriptor of EN 300 468 (`stuffing`); `holding` is a slot with a body and stuffing behind it. Assumes nothing.
+use Prim.Native.Nat.{ℕ, zero, suc, _-_}
+use mathlib.Core.List.{List, [], _∷_, _++_}
 use lib.ListN.{length, replicate}
 
 -- descriptor_tag and descriptor_tag_extension of S2Xv2
@@ -30,3 +30,7 @@ unfoldable pub stuffing : ℕ → List ℕ
 stuffing zero = []
 stuffing (suc zero) = stuffingTag ∷ []
 stuffing (suc (suc m)) = stuffingTag ∷ m ∷ replicate m filler
+
+-- a slot of n bytes that holds a body in its envelope, with stuffing behind it
+unfoldable pub holding : ℕ → List ℕ → List ℕ
+holding n body = envelope body ++ stuffing (n - length (envelope body))

@@ -3,9 +3,9 @@ ghost use mathlib.Core.Path.{_≡_};
 ghost use Prim.Native.Nat.{_<_, _≤_};
 ghost use lib.ListN.{length};
 ghost use Rattle.slot.specs.Form.{goodSize, goodFirst, goodRest, goodForm};
-use crate::envelope::TAG;
 use crate::envelope::EXTENSION;
 use crate::envelope::STUFFING_TAG;
+use crate::envelope::TAG;
 use crate::number::wide;
 
 // Whether a slot may have `n` bytes.
