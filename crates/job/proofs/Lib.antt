@@ -1,0 +1,4 @@
+pub mod Lists
+pub mod Fairness
+pub mod Places
+pub mod Advancing
