@@ -5,3 +5,4 @@ pub mod empty;
 pub mod envelope;
 pub mod form;
 mod number;
+pub mod read;

@@ -1,0 +1,63 @@
+-- What reading a slot answers, by the way through the code: the form, the first tag, and the reader's answer for the body.
+-- Assumes nothing.
+use mathlib.Core.Path.{_≡_, refl, sym, ap, _∙_}
+use mathlib.Core.Bool.{true, false}
+use mathlib.Core.List.{List, [], _∷_}
+use Prim.Native.Nat.{ℕ, _+_, _-_, _≤_}
+use native.Mathlib.Omega.{arith}
+use lib.ListN.{length, take, drop, length-take, length-drop}
+use Rattle.s2xv2.specs.declared.answer.Refusal.{Refusal}
+use Rattle.s2xv2.specs.declared.answer.Refusal.the-variants as R
+use Rattle.s2xv2.specs.Answer.{numbers, told}
+use Rattle.s2xv2.specs.Read.{Reading, readOf, tailOf}
+use Rattle.s2xv2.proofs.Reach.{accepted-tail}
+use Rattle.reader.specs.Seen.{seen}
+use Rattle.reader.specs.declared.Parsed.{Parsed}
+use Rattle.slot.specs.declared.answer.SlotAnswer.{SlotAnswer}
+use Rattle.slot.specs.Envelope.{stuffingTag}
+use Rattle.slot.specs.Form.{byteAt, goodForm}
+use Rattle.slot.specs.Answer.{slotTold, slotSeen}
+use Rattle.slot.specs.Read.{Shown, showsNone, showsEmpty, showsBody, placed, bodyIn, shown}
+use Rattle.slot.proofs.GoodForm.{form-size}
+use Rattle.slot.proofs.Laws.{shown-empty, shown-body}
+
+pub shown-none : (s : List ℕ) → goodForm s ≡ false → shown s ≡ showsNone
+unfolding shown
+shown-none s f = rw f
+
+-- the body, cut where the descriptor ends
+pub body-part : (s : List ℕ) (b : ℕ) → b ≡ byteAt s 1 → take (b + 2 - 3) (drop 3 s) ≡ bodyIn s
+body-part s b e = let q : b + 2 - 3 ≡ byteAt s 1 - 1 = omega arith in ap (λ (n : ℕ). take n (drop 3 s)) q
+
+pub body-size : (s b : List ℕ) → goodForm s ≡ true → b ≡ bodyIn s → length b ≤ 257
+body-size s b f e = let n = form-size s f in rw e (simp (length-take, length-drop) (omega arith))
+
+-- a refused body is told as the reader tells it
+pub placed-refused : (size : ℕ) (why : Refusal) → numbers why ≡ placed size (numbers why)
+placed-refused size (R.Short place need have) = refl
+placed-refused size (R.Long n) = refl
+placed-refused size (R.Inconsistent place) = refl
+placed-refused size (R.Field place) = refl
+placed-refused size (R.Room need have) = refl
+placed-refused size R.Slot = refl
+placed-refused size (R.NoFit d) = refl
+placed-refused size R.OtherSize = refl
+
+-- ---- a slot that holds a body
+module _ (s b : List ℕ) (p : Parsed) (f : goodForm s ≡ true) (t : byteAt s 0 ≡ stuffingTag → ⊥) (e : b ≡ bodyIn s) where
+  pub place-within : seen p ≡ readOf b → (n : ℕ) → 0 ∷ n ∷ [] ≡ told (p .answer) → n ≤ length b
+  place-within q n h = accepted-tail b n (h ∙ ap (λ (x : Reading). x .told) q) .1
+
+  pub reads-body : seen p ≡ readOf b → (a : SlotAnswer) → slotTold a ≡ placed (length b) (told (p .answer)) → slotSeen (record { answer = a; body = p .body }) ≡ shown s .reading
+  unfolding showsBody
+  reads-body q a h =
+      ap {B = Reading} (λ (l : List ℕ). record { told = l; body = p .body }) h
+      ∙ ap {B = Reading} (λ (x : Reading). record { told = placed (length b) (x .told); body = x .body }) q
+      ∙ ap (λ (body : List ℕ). showsBody body .reading) e
+      ∙ sym (ap (λ (x : Shown). x .reading) (shown-body s f t))
+
+-- .. and its tail
+module _ (s b : List ℕ) (f : goodForm s ≡ true) (t : byteAt s 0 ≡ stuffingTag → ⊥) (e : b ≡ bodyIn s) where
+  pub tail-body : (x : List ℕ) → x ≡ tailOf b → x ≡ shown s .tail
+  unfolding showsBody
+  tail-body x h = h ∙ ap (λ (body : List ℕ). showsBody body .tail) e ∙ sym (ap (λ (y : Shown). y .tail) (shown-body s f t))
