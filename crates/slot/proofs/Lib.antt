@@ -4,3 +4,4 @@ pub mod GoodForm
 pub mod Emptying
 pub mod Laws
 pub mod Reading
+pub mod Same

@@ -1,4 +1,4 @@
--- What reading a slot answers, in numbers: `slotTold`, and `slotSeen` with the record shown. `answerOf` takes the numbers back. Assumes nothing.
+-- What reading a slot answers, in numbers: `slotTold`, and `slotSeen` with the record shown. Assumes nothing.
 use Prim.Native.Nat.{ℕ}
 use mathlib.Core.List.{List, [], _∷_}
 use Rattle.s2xv2.specs.Answer.{numbers}

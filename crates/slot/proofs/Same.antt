@@ -1,0 +1,73 @@
+-- Any two answers that a contract of this crate allows are equal, and any two final slots: the numbers lose nothing, since `answerOf` gives the answer back.
+-- Assumes nothing.
+use mathlib.Core.Path.{_≡_, refl, sym, ap, _∙_}
+use mathlib.Core.Bool.{Bool}
+use mathlib.Core.List.{List, [], _∷_}
+use Prim.Native.Nat.{ℕ, zero, suc}
+use lib.ListN.{length, getD}
+use Rattle.s2xv2.specs.declared.answer.Refusal.{Refusal}
+use Rattle.s2xv2.specs.declared.answer.Refusal.the-variants as R
+use Rattle.s2xv2.specs.Read.{Reading}
+use Rattle.s2xv2.specs.declared.record.S2Xv2SatelliteDeliverySystem.{S2Xv2SatelliteDeliverySystem}
+use Rattle.s2xv2.proofs.Answers.{refusalOf, refusal-back}
+use Rattle.slot.specs.declared.answer.SlotAnswer.{SlotAnswer}
+use Rattle.slot.specs.declared.answer.SlotAnswer.the-variants as A
+use Rattle.slot.specs.declared.answer.SlotRead.{SlotRead}
+use Rattle.slot.specs.Answer.{slotTold, slotSeen}
+use Rattle.slot.specs.Form.{goodSize, goodForm}
+use Rattle.slot.specs.Read.{shown}
+use Rattle.slot.specs.Empty.{emptyTold, emptied}
+
+-- number 0 with nothing more is empty, number 0 with more is accepted, and any other number is a refusal's
+answerOf : List ℕ → SlotAnswer
+answerOf [] = A.Empty
+answerOf (zero ∷ []) = A.Empty
+answerOf (zero ∷ x ∷ l) = A.Accepted x (getD l 0 0)
+answerOf (suc n ∷ l) = A.Refused (refusalOf (suc n ∷ l))
+
+answer-back : (a : SlotAnswer) → answerOf (slotTold a) ≡ a
+unfolding answerOf
+answer-back (A.Accepted place length) = refl
+answer-back A.Empty = refl
+answer-back (A.Refused (R.Short place need have)) = ap A.Refused (refusal-back (R.Short place need have))
+answer-back (A.Refused (R.Long n)) = ap A.Refused (refusal-back (R.Long n))
+answer-back (A.Refused (R.Inconsistent place)) = ap A.Refused (refusal-back (R.Inconsistent place))
+answer-back (A.Refused (R.Field place)) = ap A.Refused (refusal-back (R.Field place))
+answer-back (A.Refused (R.Room need have)) = ap A.Refused (refusal-back (R.Room need have))
+answer-back (A.Refused R.Slot) = ap A.Refused (refusal-back R.Slot)
+answer-back (A.Refused (R.NoFit size)) = ap A.Refused (refusal-back (R.NoFit size))
+answer-back (A.Refused R.OtherSize) = ap A.Refused (refusal-back R.OtherSize)
+
+-- Two answers with the same numbers are equal.
+pub same-slot-told : (a b : SlotAnswer) → slotTold a ≡ slotTold b → a ≡ b
+same-slot-told a b e = sym (answer-back a) ∙ ap answerOf e ∙ answer-back b
+
+pub same-seen : (a b : SlotRead) → slotSeen a ≡ slotSeen b → a ≡ b
+same-seen a b e =
+    let p : a .answer ≡ b .answer = same-slot-told (a .answer) (b .answer) (ap (λ (x : Reading). x .told) e) in
+    let q : a .body ≡ b .body = ap (λ (x : Reading). x .body) e in
+    ap {B = SlotRead} (λ (x : SlotAnswer). record { answer = x; body = a .body }) p
+    ∙ ap {B = SlotRead} (λ (y : S2Xv2SatelliteDeliverySystem). record { answer = b .answer; body = y }) q
+
+-- `form::is_size`
+pub is-size-same : (n : ℕ) (a b : Bool) → a ≡ goodSize n → b ≡ goodSize n → a ≡ b
+is-size-same n a b p q = p ∙ sym q
+
+-- `form::in_form`
+pub in-form-same : (s : List ℕ) (a b : Bool) → a ≡ goodForm s → b ≡ goodForm s → a ≡ b
+in-form-same s a b p q = p ∙ sym q
+
+-- `read::read`
+pub read-same : (s : List ℕ) (a b : SlotRead) → slotSeen a ≡ shown s .reading → slotSeen b ≡ shown s .reading → a ≡ b
+read-same s a b p q = same-seen a b (p ∙ sym q)
+
+-- `read::reserved_tail`: the bytes of the part
+pub reserved-tail-same : (s a b : List ℕ) → a ≡ shown s .tail → b ≡ shown s .tail → a ≡ b
+reserved-tail-same s a b p q = p ∙ sym q
+
+-- `empty::make_empty`: the answer, and the slot
+pub make-empty-same : (s : List ℕ) (a b : SlotAnswer) → slotTold a ≡ emptyTold (length s) → slotTold b ≡ emptyTold (length s) → a ≡ b
+make-empty-same s a b p q = same-slot-told a b (p ∙ sym q)
+
+pub make-empty-same-slot : (s x y : List ℕ) → x ≡ emptied s → y ≡ emptied s → x ≡ y
+make-empty-same-slot s x y p q = p ∙ sym q
