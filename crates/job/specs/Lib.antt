@@ -1,3 +1,4 @@
 pub mod Stores
 pub mod Job
 pub mod Step
+pub mod Begin
