@@ -1,0 +1,27 @@
+-- A job and its slot under steps: `Going` is both, `stepping` takes them through steps with given allowances, as the contract of step says; `sum` adds the
+-- allowances, and `AllPositive` says that each is at least 1. Assumes nothing.
+use Prim.Native.Nat.{ℕ, _+_, _≤_}
+use mathlib.Core.List.{List, [], _∷_}
+use lib.ListN.{length}
+use Rattle.job.specs.declared.job.Job.{Job}
+use Rattle.job.specs.Step.{stepOf, slotAfter}
+
+pub record Going : Type 0 where
+  pub job : Job
+  pub slot : List ℕ
+
+-- one step, and one after the other
+abbrev pub step : Going → ℕ → Going
+step g a = record { job = stepOf (g .job) (length (g .slot)) a .job; slot = slotAfter (g .job) (g .slot) a }
+
+unfoldable pub stepping : Going → List ℕ → Going
+stepping g [] = g
+stepping g (a ∷ more) = stepping (step g a) more
+
+abbrev pub sum : List ℕ → ℕ
+sum [] = 0
+sum (a ∷ more) = a + sum more
+
+abbrev pub AllPositive : List ℕ → Type 0
+AllPositive [] = Unit {0}
+AllPositive (a ∷ more) = (1 ≤ a) × AllPositive more
