@@ -1,0 +1,106 @@
+-- DEMAND 3 after k stores. A job's stores lay a cover over the slot, so `safe` asks five facts of the form, which are the slot's laws; what the finished slot
+-- reads as is what was written, by the round trip of the body. `middle-safe` and `middle-ends` are the same for any middle that leaves the right bytes.
+-- Assumes nothing.
+use mathlib.Core.Path.{_≡_, refl, sym, ap, _∙_}
+use mathlib.Core.List.{List, [], _∷_, _++_, append-nil}
+use mathlib.Core.Bool.{true}
+use Prim.Native.Nat.{ℕ, suc, _+_, _-_, _≤_}
+use native.Mathlib.Omega.{arith}
+use lib.ListN.{length, take, drop, drop-of-length-le}
+use lib.Seq.{sets-eq}
+use Rattle.wire.specs.Parts.{sizes}
+use Rattle.s2xv2.specs.declared.record.S2Xv2SatelliteDeliverySystem.{S2Xv2SatelliteDeliverySystem}
+use Rattle.s2xv2.specs.Read.{Reading, readOf, tailOf}
+use Rattle.s2xv2.specs.Encode.{partsOf, encode, encodedLength}
+use Rattle.s2xv2.specs.Carried.{carried}
+use Rattle.s2xv2.proofs.Whole.{encode-length}
+use Rattle.stores.specs.declared.store.Store.{Store}
+use Rattle.stores.specs.Run.{run, upwards, Within}
+use Rattle.stores.proofs.Laws.{upwards-length, upwards-run, upwards-within}
+use Rattle.slot.specs.Envelope.{tag, stuffingTag, envelope, stuffing, holding}
+use Rattle.slot.specs.Form.{goodForm}
+use Rattle.slot.specs.Read.{Shown, showsEmpty, showsBody, placed, shown, ReadsAs}
+use Rattle.slot.proofs.GoodForm.{form-size}
+use Rattle.slot.proofs.Laws.{cover, retag, image}
+use Rattle.job.specs.Stores.{behind, covered, stores}
+use Rattle.job.specs.Job.{fitsIn}
+use Rattle.job.specs.Begin.{sizeOf, descriptorOf}
+use Rattle.job.proofs.Lists.{behind-length}
+use Rattle.job.proofs.Fairness.{fits-facts}
+use Rattle.demand3.specs.Demand3.{Ready, jobStores, holds, readsAfter, due}
+use Rattle.demand3.proofs.Covered.{under, after-all, Phases, safe}
+
+-- ---- any body, and any middle
+module _ (s body : List ℕ) (fits : fitsIn (length (envelope body)) (length s) ≡ true) where
+  -- the two bytes in front and what is behind them are the slot that holds the body
+  pub uncovered : tag ∷ (length (envelope body) - 2) ∷ behind (length s) (envelope body) ≡ holding (length s) body
+  unfolding behind holding
+  uncovered =
+      let e : length (envelope body) - 2 ≡ suc (length body) = omega arith in
+      ap (λ (x : ℕ). tag ∷ x ∷ behind (length s) (envelope body)) e
+
+  -- THE ONE PLACE that meets the laws of the form
+  phases : goodForm s ≡ true
+      → Phases ReadsAs (length s) (length (envelope body)) s (behind (length s) (envelope body)) (shown s) showsEmpty (showsBody body)
+  phases g =
+      let f = fits-facts (length (envelope body)) (length s) fits in
+      let n = form-size s g in
+      let fin : ReadsAs (tag ∷ (length (envelope body) - 2) ∷ behind (length s) (envelope body)) (showsBody body) =
+      rw uncovered (image (length s) body (n .0) (n .1) (f .0) (f .1)) in
+      record {
+        none = record { form = g; reads = refl };
+        one = retag s g;
+        cover = λ t l a e. cover t (omega arith) (omega arith) a (omega arith);
+        late = retag (tag ∷ (length (envelope body) - 2) ∷ behind (length s) (envelope body)) (fin .form);
+        all = fin;
+      }
+
+  module _ (middle : List Store) where
+    pub middle-ends : (t : List ℕ) → run middle (under (length s) t) ≡ stuffingTag ∷ (length s - 2) ∷ behind (length s) (envelope body)
+        → run (covered (length s) (length (envelope body)) middle) t ≡ holding (length s) body
+    middle-ends t right = after-all (length s) (length (envelope body)) middle t (behind (length s) (envelope body)) right ∙ uncovered
+
+    pub middle-safe : goodForm s ≡ true → Within 2 (length s) middle
+        → run middle (under (length s) s) ≡ stuffingTag ∷ (length s - 2) ∷ behind (length s) (envelope body)
+        → (k : ℕ) → ReadsAs (run (take k (covered (length s) (length (envelope body)) middle)) s) (readsAfter (shown s) showsEmpty (showsBody body) (length middle + 4) k)
+    middle-safe g w right =
+        let n = form-size s g in
+        safe ReadsAs (length s) (length (envelope body)) s (behind (length s) (envelope body)) (shown s) showsEmpty (showsBody body) (phases g) refl (omega arith) middle w right
+
+-- ---- the job's middle: every byte is stored, upwards
+up-right : (n : ℕ) (b s : List ℕ) → length s ≡ n → length b ≡ n - 2 → 2 ≤ n → run (upwards 2 b) (under n s) ≡ stuffingTag ∷ (n - 2) ∷ b
+up-right n b [] e l h = absurd (omega arith)
+up-right n b (x ∷ []) e l h = absurd (omega arith)
+up-right n b (x ∷ y ∷ r) e l h =
+    let q : drop (2 + length b) (stuffingTag ∷ (n - 2) ∷ r) ≡ [] = drop-of-length-le (stuffingTag ∷ (n - 2) ∷ r) {i = 2 + length b} (omega arith) in
+    upwards-run 2 b (stuffingTag ∷ (n - 2) ∷ r)
+    ∙ sets-eq b (stuffingTag ∷ (n - 2) ∷ r) 2 (omega arith)
+    ∙ ap (λ (t : List ℕ). (stuffingTag ∷ (n - 2) ∷ b) ++ t) q
+    ∙ append-nil (stuffingTag ∷ (n - 2) ∷ b)
+
+module _ (s body : List ℕ) (fits : fitsIn (length (envelope body)) (length s) ≡ true) where
+  abbrev middle : List Store
+  middle = upwards 2 (behind (length s) (envelope body))
+
+  long : length (behind (length s) (envelope body)) ≡ length s - 2
+  long = let f = fits-facts (length (envelope body)) (length s) fits in behind-length (length s) (envelope body) (omega arith) (f .0)
+
+  right : (t : List ℕ) → length t ≡ length s → run middle (under (length s) t) ≡ stuffingTag ∷ (length s - 2) ∷ behind (length s) (envelope body)
+  right t e =
+      let f = fits-facts (length (envelope body)) (length s) fits in
+      up-right (length s) (behind (length s) (envelope body)) t e long (omega arith)
+
+  -- All stores made leave the same bytes in every slot of that size, whatever stood there.
+  pub ends : (t : List ℕ) → length t ≡ length s → run (stores (length s) (envelope body)) t ≡ holding (length s) body
+  unfolding stores
+  ends t e = middle-ends s body fits middle t (right t e)
+
+  pub body-safe : goodForm s ≡ true → (k : ℕ)
+      → ReadsAs (run (take k (stores (length s) (envelope body))) s) (readsAfter (shown s) showsEmpty (showsBody body) (length s + 2) k)
+  unfolding stores
+  body-safe g k =
+      let n = form-size s g in
+      let l = long in
+      let e : length middle + 4 ≡ length s + 2 = rw (upwards-length, l) (omega arith) in
+      let w : Within 2 (length s) middle = upwards-within 2 2 (length s) (behind (length s) (envelope body)) (omega arith) (rw l (omega arith)) in
+      rw (← e) (middle-safe s body fits middle g w (right s refl) k)
