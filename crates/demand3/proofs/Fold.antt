@@ -14,6 +14,7 @@ use Rattle.s2xv2.specs.Read.{Reading, readOf, tailOf}
 use Rattle.s2xv2.specs.Encode.{partsOf, encode, encodedLength}
 use Rattle.s2xv2.specs.Carried.{carried}
 use Rattle.s2xv2.proofs.Whole.{encode-length}
+use Rattle.s2xv2.proofs.Round.{read-encode, tail-encode}
 use Rattle.stores.specs.declared.store.Store.{Store}
 use Rattle.stores.specs.Run.{run, upwards, Within}
 use Rattle.stores.proofs.Laws.{upwards-length, upwards-run, upwards-within}
@@ -104,3 +105,30 @@ module _ (s body : List ℕ) (fits : fitsIn (length (envelope body)) (length s) 
       let e : length middle + 4 ≡ length s + 2 = rw (upwards-length, l) (omega arith) in
       let w : Within 2 (length s) middle = upwards-within 2 2 (length s) (behind (length s) (envelope body)) (omega arith) (rw l (omega arith)) in
       rw (← e) (middle-safe s body fits middle g w (right s refl) k)
+
+-- ---- a record and its tail
+pub size-is : (r : S2Xv2SatelliteDeliverySystem) (tail : List ℕ) → length (descriptorOf r tail) ≡ sizeOf r tail
+size-is r tail = let e = encode-length r tail in omega arith
+
+pub fits-it : {s : List ℕ} {r : S2Xv2SatelliteDeliverySystem} {tail : List ℕ} → Ready s r tail → fitsIn (length (descriptorOf r tail)) (length s) ≡ true
+fits-it {s} {r} {tail} R = rw (size-is r tail) (R .fits)
+
+-- what the slot's body shows is the record and the tail
+shows-it : {s : List ℕ} {r : S2Xv2SatelliteDeliverySystem} {tail : List ℕ} → Ready s r tail → showsBody (encode r tail) ≡ holds r tail
+unfolding showsBody encodedLength
+shows-it {s} {r} {tail} R =
+    let n = form-size s (R .form) in
+    let f = fits-facts (sizeOf r tail) (length s) (R .fits) in
+    let l : encodedLength r tail ≤ 4096 = omega arith in
+    let e = read-encode r tail (R .consistent) (R .writable) (R .held) (R .bytes) l in
+    let z = encode-length r tail in
+    let q : length (encode r tail) - sizes (partsOf r) ≡ length tail = omega arith in
+    ap {B = Shown} (λ (x : Reading). record {
+      reading = record { told = placed (length (encode r tail)) (x .told); body = x .body };
+      tail = tailOf (encode r tail);
+    }) e
+    ∙ rw (q, tail-encode r tail (R .consistent) (R .writable) (R .held) (R .bytes) l)
+
+-- DEMAND 3. After any number of the job's stores the slot is in good form, and reads as before, as empty, or as that record and tail.
+pub demand3 : {s : List ℕ} {r : S2Xv2SatelliteDeliverySystem} {tail : List ℕ} → Ready s r tail → (k : ℕ) → ReadsAs (run (take k (jobStores s r tail)) s) (due s r tail k)
+demand3 {s} {r} {tail} R k = rw (← shows-it R) (body-safe s (encode r tail) (fits-it R) (R .form) k)
