@@ -1,0 +1,74 @@
+-- Begin accepts exactly where demand 3 speaks: each test of its answer is one of the facts of `Ready`.
+-- Assumes nothing.
+use mathlib.Core.Path.{_≡_, refl, sym, ap, _∙_}
+use mathlib.Core.List.{List, [], _∷_}
+use mathlib.Core.Bool.{Bool, true, false}
+use Prim.Native.Nat.{ℕ, _+_, _≤_, _<_}
+use native.Mathlib.Omega.{arith}
+use borrow.Author.Tests.{le-ltb, ltb-false}
+use lib.ListN.{length}
+use lib.Dec.{ltb}
+use Rattle.wire.specs.Flags.{when}
+use Rattle.wire.specs.Widths.{Bytes}
+use Rattle.s2xv2.specs.declared.record.S2Xv2SatelliteDeliverySystem.{S2Xv2SatelliteDeliverySystem}
+use Rattle.s2xv2.specs.Answer.{saturated}
+use Rattle.s2xv2.specs.Held.{Held}
+use Rattle.s2xv2.specs.Read.{numberOf}
+use Rattle.s2xv2.specs.Encode.{encodedLength}
+use Rattle.s2xv2.specs.ListA.{inconsistency}
+use Rattle.s2xv2.specs.ListB.{unwritable}
+use Rattle.slot.specs.Form.{goodForm}
+use Rattle.slot.proofs.GoodForm.{form-size}
+use Rattle.job.specs.Job.{fitsIn}
+use Rattle.job.specs.Begin.{sizeOf, descriptorOf, newJob, beginTold, Begins, beginOf}
+use Rattle.job.proofs.Fairness.{fits-facts}
+use Rattle.demand3.specs.Demand3.{Ready}
+
+-- what begin tells where all of its tests pass
+pub told-ready : {s : List ℕ} {r : S2Xv2SatelliteDeliverySystem} {tail : List ℕ} → Ready s r tail → beginTold s r tail ≡ 0 ∷ (length s + 2) ∷ []
+unfolding beginTold
+told-ready {s} {r} {tail} R =
+    let n = form-size s (R .form) in
+    let f = fits-facts (sizeOf r tail) (length s) (R .fits) in
+    rw (R .form, R .consistent, le-ltb 4096 (encodedLength r tail) (omega arith), R .fits, R .writable)
+
+-- .. and that it answers the job
+pub begins : {s : List ℕ} {r : S2Xv2SatelliteDeliverySystem} {tail : List ℕ} → Ready s r tail
+    → beginOf s r tail ≡ record { told = 0 ∷ (length s + 2) ∷ []; job = newJob (length s) (descriptorOf r tail) }
+unfolding beginOf
+begins {s} {r} {tail} R = rw (told-ready R)
+
+-- ---- only there: a pick that gives number 0 picked the part that can give it
+zero-else : (c : Bool) (a b : List ℕ) → numberOf (when c a b) ≡ 0 → (numberOf a ≡ 0 → ⊥) → (c ≡ false) × (numberOf b ≡ 0)
+zero-else true a b e h = absurd (h e)
+zero-else false a b e h = (refl, e)
+
+zero-then : (c : Bool) (a b : List ℕ) → numberOf (when c a b) ≡ 0 → (numberOf b ≡ 0 → ⊥) → (c ≡ true) × (numberOf a ≡ 0)
+zero-then true a b e h = (refl, e)
+zero-then false a b e h = absurd (h e)
+
+module _ (s : List ℕ) (r : S2Xv2SatelliteDeliverySystem) (tail : List ℕ) where
+  abbrev told₄ : List ℕ
+  told₄ = when (ltb 0 (unwritable r)) (4 ∷ unwritable r ∷ []) (0 ∷ (length s + 2) ∷ [])
+
+  abbrev told₇ : List ℕ
+  told₇ = when (fitsIn (sizeOf r tail) (length s)) told₄ (7 ∷ sizeOf r tail ∷ [])
+
+  abbrev told₂ : List ℕ
+  told₂ = when (ltb 4096 (encodedLength r tail)) (2 ∷ saturated (encodedLength r tail) ∷ []) told₇
+
+  abbrev told₃ : List ℕ
+  told₃ = when (ltb 0 (inconsistency r)) (3 ∷ inconsistency r ∷ []) told₂
+
+  -- Where begin accepts a record, with what the types say of it and of its tail, demand 3 speaks.
+  pub ready : Held r → Bytes tail → numberOf (beginTold s r tail) ≡ 0 → Ready s r tail
+  unfolding beginTold
+  ready h b e =
+      let a₆ = zero-then (goodForm s) told₃ (6 ∷ []) e (λ (z : _≡_ {A = ℕ} 6 0). omega arith) in
+      let a₃ = zero-else (ltb 0 (inconsistency r)) (3 ∷ inconsistency r ∷ []) told₂ (a₆ .1) (λ (z : _≡_ {A = ℕ} 3 0). omega arith) in
+      let a₂ = zero-else (ltb 4096 (encodedLength r tail)) (2 ∷ saturated (encodedLength r tail) ∷ []) told₇ (a₃ .1) (λ (z : _≡_ {A = ℕ} 2 0). omega arith) in
+      let a₇ = zero-then (fitsIn (sizeOf r tail) (length s)) told₄ (7 ∷ sizeOf r tail ∷ []) (a₂ .1) (λ (z : _≡_ {A = ℕ} 7 0). omega arith) in
+      let a₄ = zero-else (ltb 0 (unwritable r)) (4 ∷ unwritable r ∷ []) (0 ∷ (length s + 2) ∷ []) (a₇ .1) (λ (z : _≡_ {A = ℕ} 4 0). omega arith) in
+      let i : inconsistency r ≤ 0 = ltb-false 0 (inconsistency r) (a₃ .0) in
+      let w : unwritable r ≤ 0 = ltb-false 0 (unwritable r) (a₄ .0) in
+      record { form = a₆ .0; consistent = omega arith; writable = omega arith; fits = a₇ .0; held = h; bytes = b }
