@@ -22,12 +22,12 @@ pub enum StepAnswer {
 }
 
 pub struct Stepped {
+    // The job after the step.
+    pub job: Job,
     pub answer: StepAnswer,
     // How many stores the step made, and whether the job has none left.
     pub stores: usize,
     pub done: bool,
-    // The job after the step.
-    pub job: Job,
 }
 
 impl Job {
@@ -48,10 +48,10 @@ impl Job {
         let mut job = self;
         job.stores_made = moved.made;
         Stepped {
+            job: job,
             answer: answer,
             stores: moved.stores,
             done: moved.done,
-            job: job,
         }
     }
 }
