@@ -11,12 +11,12 @@ use slot::form::is_size;
 
 // What a step answers, but for the bytes and the sizes of the job, which no step changes.
 pub struct Moved {
+    // How many stores the job has made in all.
+    pub made: usize,
     pub answer: StepAnswer,
     // How many stores the step made, and whether the job has none left.
     pub stores: usize,
     pub done: bool,
-    // How many stores the job has made in all.
-    pub made: usize,
 }
 
 // Whether begin and steps could have given a job these numbers, its slot's size, its descriptor's and the stores made, on a slot of `have` bytes.
@@ -69,17 +69,17 @@ pub fn advance(
         let count = smaller(allowance, left);
         make_stores(staged, n, d, k, slot, count);
         Moved {
+            made: k + count,
             answer: StepAnswer::Accepted,
             stores: count,
             done: count == left,
-            made: k + count,
         }
     } else {
         Moved {
+            made: k,
             answer: StepAnswer::OtherSize,
             stores: 0,
             done: false,
-            made: k,
         }
     }
 }
