@@ -17,8 +17,8 @@ use Rattle.s2xv2.specs.Read.{numberOf}
 use Rattle.s2xv2.specs.Encode.{encodedLength}
 use Rattle.s2xv2.specs.ListA.{inconsistency}
 use Rattle.s2xv2.specs.ListB.{unwritable}
-use Rattle.slot.specs.Form.{goodForm}
-use Rattle.slot.proofs.GoodForm.{form-size}
+use Rattle.form.specs.Form.{goodForm}
+use Rattle.form.proofs.GoodForm.{form-size}
 use Rattle.job.specs.Job.{fitsIn}
 use Rattle.job.specs.Begin.{sizeOf, descriptorOf, newJob, beginTold, Begins, beginOf}
 use Rattle.job.proofs.Fairness.{fits-facts}

@@ -13,8 +13,8 @@ use Rattle.s2xv2.specs.Table144c.{modeOf}
 use Rattle.s2xv2.specs.ListA.{inconsistency}
 use Rattle.s2xv2.specs.ListB.{unwritable}
 use Rattle.s2xv2.proofs.Cases.{Row, _gives_, right, table}
-use Rattle.slot.specs.Envelope.{stuffing}
-use Rattle.slot.specs.Form.{goodSize, goodFirst, goodRest, goodForm}
+use Rattle.form.specs.Envelope.{stuffing}
+use Rattle.form.specs.Form.{goodSize, goodFirst, goodRest, goodForm}
 use Rattle.job.specs.Job.{fitsIn, fair}
 use Rattle.job.specs.Step.{stepOf}
 use Rattle.job.specs.Begin.{beginTold, beginOf}

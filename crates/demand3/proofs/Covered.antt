@@ -14,7 +14,7 @@ use lib.Seq.{take-append-le, take-append-add, take-all, getD-set-same, getD-set-
 use Rattle.stores.specs.declared.store.Store.{Store}
 use Rattle.stores.specs.Run.{_at_, run, Within}
 use Rattle.stores.proofs.Laws.{run-append, run-length, run-below, within-take}
-use Rattle.slot.specs.Envelope.{tag, stuffingTag}
+use Rattle.form.specs.Envelope.{tag, stuffingTag}
 use Rattle.job.specs.Stores.{covered}
 use Rattle.demand3.specs.Demand3.{readsAfter}
 

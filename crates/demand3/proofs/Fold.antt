@@ -18,10 +18,10 @@ use Rattle.s2xv2.proofs.Round.{read-encode, tail-encode}
 use Rattle.stores.specs.declared.store.Store.{Store}
 use Rattle.stores.specs.Run.{run, upwards, Within}
 use Rattle.stores.proofs.Laws.{upwards-length, upwards-run, upwards-within}
-use Rattle.slot.specs.Envelope.{tag, stuffingTag, envelope, stuffing, holding}
-use Rattle.slot.specs.Form.{goodForm}
+use Rattle.form.specs.Envelope.{tag, stuffingTag, envelope, stuffing, holding}
+use Rattle.form.specs.Form.{goodForm}
 use Rattle.slot.specs.Read.{Shown, showsEmpty, showsBody, placed, shown, ReadsAs}
-use Rattle.slot.proofs.GoodForm.{form-size}
+use Rattle.form.proofs.GoodForm.{form-size}
 use Rattle.slot.proofs.Laws.{cover, retag, image}
 use Rattle.job.specs.Stores.{behind, covered, stores}
 use Rattle.job.specs.Job.{fitsIn}

@@ -12,8 +12,8 @@ use Rattle.s2xv2.specs.declared.record.S2Xv2SatelliteDeliverySystem.{S2Xv2Satel
 use Rattle.s2xv2.specs.Encode.{encode}
 use Rattle.stores.specs.Run.{run}
 use Rattle.stores.proofs.Laws.{run-length}
-use Rattle.slot.specs.Envelope.{holding}
-use Rattle.slot.specs.Form.{goodForm}
+use Rattle.form.specs.Envelope.{holding}
+use Rattle.form.specs.Form.{goodForm}
 use Rattle.job.specs.Begin.{beginTold, beginOf, descriptorOf}
 use Rattle.job.proofs.Lists.{stores-length}
 use Rattle.job.proofs.Fairness.{fits-facts}

@@ -13,7 +13,7 @@ use Rattle.s2xv2.specs.declared.record.S2Xv2SatelliteDeliverySystem.{S2Xv2Satel
 use Rattle.stores.specs.Run.{run}
 use Rattle.stores.proofs.Laws.{run-length, run-add}
 use Rattle.slot.specs.Read.{ReadsAs}
-use Rattle.slot.proofs.GoodForm.{form-size}
+use Rattle.form.proofs.GoodForm.{form-size}
 use Rattle.job.specs.declared.job.Job.{Job}
 use Rattle.job.specs.Stores.{stores}
 use Rattle.job.specs.Job.{todo, withMade, fair, Fair}

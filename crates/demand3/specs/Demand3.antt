@@ -16,8 +16,8 @@ use Rattle.s2xv2.specs.ListA.{inconsistency}
 use Rattle.s2xv2.specs.ListB.{unwritable}
 use Rattle.s2xv2.specs.Carried.{carried}
 use Rattle.stores.specs.declared.store.Store.{Store}
-use Rattle.slot.specs.Envelope.{envelopeSize}
-use Rattle.slot.specs.Form.{goodForm}
+use Rattle.form.specs.Envelope.{envelopeSize}
+use Rattle.form.specs.Form.{goodForm}
 use Rattle.slot.specs.Read.{Shown, showsEmpty, shown}
 use Rattle.job.specs.Stores.{stores}
 use Rattle.job.specs.Job.{fitsIn}

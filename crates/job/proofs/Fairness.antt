@@ -7,9 +7,9 @@ use Prim.Native.Nat.{ℕ, _+_, _≤_}
 use native.Mathlib.Omega.{arith}
 use borrow.Author.Tests.{leb-true, eqb-true, eqb-false, not-true, le-leb, eq-eqb, ne-eqb}
 use lib.Dec.{eqb}
-use Rattle.slot.specs.Form.{goodSize}
-use Rattle.slot.proofs.Tests.{all-each, each-all, fails, from-tests, to-tests}
-use Rattle.slot.proofs.GoodForm.{size-facts, facts-size}
+use Rattle.form.specs.Form.{goodSize}
+use Rattle.form.proofs.Tests.{all-each, each-all, fails, from-tests, to-tests}
+use Rattle.form.proofs.GoodForm.{size-facts, facts-size}
 use Rattle.job.specs.declared.job.Job.{Job}
 use Rattle.job.specs.Job.{jobOf, fitTests, fitsIn, fairTests, fair, Fair}
 

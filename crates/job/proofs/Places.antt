@@ -8,7 +8,7 @@ use lib.ListN.{length, getD}
 use Rattle.stores.specs.declared.store.Store.{Store}
 use Rattle.stores.specs.Run.{_at_}
 use Rattle.stores.proofs.Laws.{within-at}
-use Rattle.slot.specs.Envelope.{tag, stuffingTag, stuffing}
+use Rattle.form.specs.Envelope.{tag, stuffingTag, stuffing}
 use Rattle.job.specs.declared.job.Job.{Job}
 use Rattle.job.specs.Stores.{behind, covered, stores}
 use Rattle.job.specs.Job.{descriptor, todo, nextStore, none, Fair}

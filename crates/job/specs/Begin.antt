@@ -11,8 +11,8 @@ use Rattle.s2xv2.specs.Read.{numberOf}
 use Rattle.s2xv2.specs.Encode.{encode, encodedLength}
 use Rattle.s2xv2.specs.ListA.{inconsistency}
 use Rattle.s2xv2.specs.ListB.{unwritable}
-use Rattle.slot.specs.Envelope.{envelope, envelopeSize}
-use Rattle.slot.specs.Form.{goodForm}
+use Rattle.form.specs.Envelope.{envelope, envelopeSize}
+use Rattle.form.specs.Form.{goodForm}
 use Rattle.job.specs.declared.job.Job.{Job}
 use Rattle.job.specs.declared.begin.Begun.{Begun}
 use Rattle.job.specs.Job.{jobOf, fitsIn}

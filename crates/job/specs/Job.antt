@@ -8,7 +8,7 @@ use lib.ListN.{getD, take, drop}
 use lib.Dec.{leb, eqb}
 use Rattle.stores.specs.declared.store.Store.{Store}
 use Rattle.stores.specs.Run.{_at_}
-use Rattle.slot.specs.Form.{all, goodSize}
+use Rattle.form.specs.Form.{all, goodSize}
 use Rattle.job.specs.declared.job.Job.{Job}
 use Rattle.job.specs.Stores.{stores}
 

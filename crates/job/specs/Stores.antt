@@ -5,7 +5,7 @@ use mathlib.Core.List.{List, [], _∷_, _++_}
 use lib.ListN.{length, drop}
 use Rattle.stores.specs.declared.store.Store.{Store}
 use Rattle.stores.specs.Run.{_at_, upwards}
-use Rattle.slot.specs.Envelope.{tag, stuffingTag, stuffing}
+use Rattle.form.specs.Envelope.{tag, stuffingTag, stuffing}
 
 -- the descriptor from its third byte, and, if it is below n, a stuffing descriptor to the end
 unfoldable pub behind : ℕ → List ℕ → List ℕ

@@ -7,7 +7,7 @@ ghost use Rattle.job.specs.Job.{jobOf, fair};
 ghost use Rattle.job.specs.Step.{movedSeen, stepOf, slotAfter};
 use crate::job::StepAnswer;
 use crate::next::make_stores;
-use slot::form::is_size;
+use form::good::is_size;
 
 // What a step answers, but for the bytes and the sizes of the job, which no step changes.
 pub struct Moved {

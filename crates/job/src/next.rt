@@ -3,11 +3,11 @@ ghost use mathlib.Core.Path.{_≡_};
 ghost use Prim.Native.Nat.{_+_, _-_, _<_, _≤_};
 ghost use lib.ListN.{length, getD};
 ghost use Rattle.stores.specs.Run.{_at_, stored, run};
-ghost use Rattle.slot.specs.Envelope.{stuffing};
+ghost use Rattle.form.specs.Envelope.{stuffing};
 ghost use Rattle.job.specs.Job.{Fair, jobOf, nextStore, nextStores};
-use slot::envelope::FILLER;
-use slot::envelope::STUFFING_TAG;
-use slot::envelope::TAG;
+use form::envelope::FILLER;
+use form::envelope::STUFFING_TAG;
+use form::envelope::TAG;
 use stores::store::Store;
 
 // A byte and its place.

@@ -5,8 +5,8 @@ use mathlib.Core.Bool.{true, false}
 use mathlib.Core.List.{List, [], _∷_}
 use Prim.Native.Nat.{ℕ}
 use lib.ListN.{length}
-use Rattle.slot.specs.Envelope.{stuffing}
-use Rattle.slot.specs.Form.{goodSize}
+use Rattle.form.specs.Envelope.{stuffing}
+use Rattle.form.specs.Form.{goodSize}
 use Rattle.slot.specs.Empty.{emptyTold, emptied}
 
 pub told-empty : (n : ℕ) → goodSize n ≡ true → 0 ∷ [] ≡ emptyTold n

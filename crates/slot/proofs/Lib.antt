@@ -1,6 +1,3 @@
-pub mod Tests
-pub mod Stuffing
-pub mod GoodForm
 pub mod Emptying
 pub mod Laws
 pub mod Reading

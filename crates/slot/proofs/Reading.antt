@@ -14,11 +14,11 @@ use Rattle.s2xv2.proofs.Reach.{accepted-tail}
 use Rattle.reader.specs.Seen.{seen}
 use Rattle.reader.specs.declared.Parsed.{Parsed}
 use Rattle.slot.specs.declared.answer.SlotAnswer.{SlotAnswer}
-use Rattle.slot.specs.Envelope.{stuffingTag}
-use Rattle.slot.specs.Form.{byteAt, goodForm}
+use Rattle.form.specs.Envelope.{stuffingTag}
+use Rattle.form.specs.Form.{byteAt, bodyIn, goodForm}
 use Rattle.slot.specs.Answer.{slotTold, slotSeen}
-use Rattle.slot.specs.Read.{Shown, showsNone, showsEmpty, showsBody, placed, bodyIn, shown}
-use Rattle.slot.proofs.GoodForm.{form-size}
+use Rattle.slot.specs.Read.{Shown, showsNone, showsEmpty, showsBody, placed, shown}
+use Rattle.form.proofs.GoodForm.{form-size}
 use Rattle.slot.proofs.Laws.{shown-empty, shown-body}
 
 pub shown-none : (s : List ℕ) → goodForm s ≡ false → shown s ≡ showsNone

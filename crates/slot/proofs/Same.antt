@@ -1,7 +1,6 @@
 -- Any two answers that a contract of this crate allows are equal, and any two final slots: the numbers lose nothing, since `answerOf` gives the answer back.
 -- Assumes nothing.
 use mathlib.Core.Path.{_≡_, refl, sym, ap, _∙_}
-use mathlib.Core.Bool.{Bool}
 use mathlib.Core.List.{List, [], _∷_}
 use Prim.Native.Nat.{ℕ, zero, suc}
 use lib.ListN.{length, getD}
@@ -14,7 +13,6 @@ use Rattle.slot.specs.declared.answer.SlotAnswer.{SlotAnswer}
 use Rattle.slot.specs.declared.answer.SlotAnswer.the-variants as A
 use Rattle.slot.specs.declared.answer.SlotRead.{SlotRead}
 use Rattle.slot.specs.Answer.{slotTold, slotSeen}
-use Rattle.slot.specs.Form.{goodSize, goodForm}
 use Rattle.slot.specs.Read.{shown}
 use Rattle.slot.specs.Empty.{emptyTold, emptied}
 
@@ -48,14 +46,6 @@ same-seen a b e =
     let q : a .body ≡ b .body = ap (λ (x : Reading). x .body) e in
     ap {B = SlotRead} (λ (x : SlotAnswer). record { answer = x; body = a .body }) p
     ∙ ap {B = SlotRead} (λ (y : S2Xv2SatelliteDeliverySystem). record { answer = b .answer; body = y }) q
-
--- `form::is_size`
-pub is-size-same : (n : ℕ) (a b : Bool) → a ≡ goodSize n → b ≡ goodSize n → a ≡ b
-is-size-same n a b p q = p ∙ sym q
-
--- `form::in_form`
-pub in-form-same : (s : List ℕ) (a b : Bool) → a ≡ goodForm s → b ≡ goodForm s → a ≡ b
-in-form-same s a b p q = p ∙ sym q
 
 -- `read::read`
 pub read-same : (s : List ℕ) (a b : SlotRead) → slotSeen a ≡ shown s .reading → slotSeen b ≡ shown s .reading → a ≡ b

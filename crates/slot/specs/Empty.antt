@@ -3,8 +3,8 @@ use Prim.Native.Nat.{ℕ}
 use mathlib.Core.List.{List, [], _∷_}
 use lib.ListN.{length}
 use Rattle.wire.specs.Flags.{when}
-use Rattle.slot.specs.Envelope.{stuffing}
-use Rattle.slot.specs.Form.{goodSize}
+use Rattle.form.specs.Envelope.{stuffing}
+use Rattle.form.specs.Form.{goodSize}
 
 -- refused with 6 for a wrong n, and for nothing else
 unfoldable pub emptyTold : ℕ → List ℕ

@@ -1,16 +1,16 @@
 -- What a slot reads as: `shown`. It is `showsNone` for a slot out of form, `showsEmpty` for one whose first tag is stuffing's, else `showsBody` of
--- `bodyIn` it, with the reader's answer `placed` in the slot. `ReadsAs` joins good form to what is shown. Assumes nothing.
+-- the body in it, with the reader's answer `placed` in the slot. `ReadsAs` joins good form to what is shown. Assumes nothing.
 use Prim.Native.Nat.{ℕ, _+_, _-_}
 use mathlib.Core.Path.{_≡_}
 use mathlib.Core.Bool.{true}
 use mathlib.Core.List.{List, [], _∷_}
-use lib.ListN.{length, getD, take, drop}
+use lib.ListN.{length, getD}
 use lib.Dec.{eqb}
 use Rattle.wire.specs.Flags.{when}
 use Rattle.s2xv2.specs.Default.{defaultRecord}
 use Rattle.s2xv2.specs.Read.{Reading, numberOf, readOf, tailOf}
-use Rattle.slot.specs.Envelope.{stuffingTag, envelopeSize}
-use Rattle.slot.specs.Form.{byteAt, goodForm}
+use Rattle.form.specs.Envelope.{stuffingTag, envelopeSize}
+use Rattle.form.specs.Form.{byteAt, bodyIn, goodForm}
 
 -- the answer in numbers, the record, and the tail
 pub record Shown : Type 0 where
@@ -33,10 +33,6 @@ placed size told = when (eqb (numberOf told) 0) (0 ∷ (getD told 1 0 + envelope
 
 unfoldable pub showsBody : List ℕ → Shown
 showsBody body = record { reading = record { told = placed (length body) (readOf body .told); body = readOf body .body }; tail = tailOf body }
-
--- the body of the first descriptor, if that is one of ours: behind tag, length and extension
-abbrev pub bodyIn : List ℕ → List ℕ
-bodyIn s = take (byteAt s 1 - 1) (drop envelopeSize s)
 
 -- WHAT A SLOT READS AS: 6, else empty, else the reader's answer for the body
 unfoldable pub shown : List ℕ → Shown

@@ -2,13 +2,13 @@
 ghost use mathlib.Core.Path.{_≡_};
 ghost use Prim.Native.Nat.{_<_, _≤_};
 ghost use lib.ListN.{length, getD};
-ghost use Rattle.slot.specs.Envelope.{stuffing};
+ghost use Rattle.form.specs.Envelope.{stuffing};
 ghost use Rattle.slot.specs.Answer.{slotTold};
 ghost use Rattle.slot.specs.Empty.{emptyTold, emptied};
 use crate::answer::SlotAnswer;
-use crate::envelope::FILLER;
-use crate::envelope::STUFFING_TAG;
-use crate::form::is_size;
+use form::envelope::FILLER;
+use form::envelope::STUFFING_TAG;
+use form::good::is_size;
 use s2xv2::answer::Refusal;
 
 // The byte at place `i` of a stuffing descriptor of `n` bytes.

@@ -5,15 +5,14 @@ ghost use mathlib.Core.List.{[], _∷_};
 ghost use Prim.Native.Nat.{ℕ, _≤_};
 ghost use Rattle.s2xv2.specs.Answer.{told};
 ghost use Rattle.s2xv2.specs.Default.{defaultRecord};
-ghost use Rattle.slot.specs.Envelope.{stuffingTag};
-ghost use Rattle.slot.specs.Form.{byteAt, goodForm};
+ghost use Rattle.form.specs.Envelope.{stuffingTag};
+ghost use Rattle.form.specs.Form.{byteAt, bodyIn, goodForm};
 ghost use Rattle.slot.specs.Answer.{slotTold, slotSeen};
-ghost use Rattle.slot.specs.Read.{placed, bodyIn, shown};
+ghost use Rattle.slot.specs.Read.{placed, shown};
 use crate::answer::SlotAnswer;
 use crate::answer::SlotRead;
-use crate::envelope::STUFFING_TAG;
-use crate::form::in_form;
-use crate::number::wide;
+use form::envelope::STUFFING_TAG;
+use form::good::in_form;
 use s2xv2::answer::Answer;
 use s2xv2::answer::Refusal;
 use s2xv2::record::S2Xv2SatelliteDeliverySystem;
@@ -23,7 +22,8 @@ fn body_in(slot: &[u8]) -> &[u8]
     requires { ⌜ (goodForm (now slot) ≡ true) × (byteAt (now slot) 0 ≡ stuffingTag → ⊥) ⌝ }
     ensures { λ r. ⌜ now r ≡ bodyIn (now (slot .entry)) ⌝ }
 {
-    let end = wide(slot[1]) + 2;
+    let length = slot[1];
+    let end = (length as usize) + 2;
     &slot[3..end]
 }
 

@@ -3,7 +3,7 @@
 use mathlib.Core.Path.{sym, _∙_}
 use native.Mathlib.Omega.{arith}
 use borrow.Author.Tests.{not-true, not-false}
-use Rattle.slot.proofs.GoodForm.{size-facts}
+use Rattle.form.proofs.GoodForm.{size-facts}
 use Rattle.job.proofs.Fairness.{unfair, facts-fair, not-sized}
 use borrow.Author.Needs.{needs}
 use Rattle.job.proofs.advance.is_fair.Statement.{statement}

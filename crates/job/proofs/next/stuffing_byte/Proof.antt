@@ -2,7 +2,7 @@
 -- Assumes nothing.
 use mathlib.Core.Path.{sym}
 use native.Mathlib.Omega.{arith}
-use Rattle.slot.proofs.Stuffing.{stuffing-tag, stuffing-size, stuffing-fill}
+use Rattle.form.proofs.Stuffing.{stuffing-tag, stuffing-size, stuffing-fill}
 use borrow.Author.Needs.{needs}
 use Rattle.job.proofs.next.stuffing_byte.Statement.{statement}
 use Rattle.job.proofs.next.stuffing_byte.Tie as tie

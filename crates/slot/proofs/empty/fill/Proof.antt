@@ -6,8 +6,8 @@ use native.Mathlib.Omega.{arith}
 use borrow.Author.Needs.{needs}
 use lib.ListN.{length}
 use lib.Seq.{paste}
-use Rattle.slot.specs.Envelope.{stuffing}
-use Rattle.slot.proofs.Stuffing.{stuffing-length, over-length, over-more, over-all}
+use Rattle.form.specs.Envelope.{stuffing}
+use Rattle.form.proofs.Stuffing.{stuffing-length, over-length, over-more, over-all}
 use Rattle.slot.proofs.empty.fill.Statement.{statement}
 use Rattle.slot.proofs.empty.fill.Tie as tie
 

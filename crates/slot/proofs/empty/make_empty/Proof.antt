@@ -3,7 +3,7 @@
 use mathlib.Core.Path.{refl, sym, _∙_}
 use native.Mathlib.Omega.{arith}
 use borrow.Author.Needs.{needs}
-use Rattle.slot.proofs.GoodForm.{size-facts}
+use Rattle.form.proofs.GoodForm.{size-facts}
 use Rattle.slot.proofs.Emptying.{told-empty, told-refused, left-empty, left-refused}
 use Rattle.slot.proofs.empty.make_empty.Statement.{statement}
 use Rattle.slot.proofs.empty.make_empty.Tie as tie

@@ -3,7 +3,7 @@
 use mathlib.Core.Path.{sym}
 use native.Mathlib.Omega.{arith}
 use borrow.Author.Needs.{needs}
-use Rattle.slot.proofs.Stuffing.{stuffing-tag, stuffing-size, stuffing-fill}
+use Rattle.form.proofs.Stuffing.{stuffing-tag, stuffing-size, stuffing-fill}
 use Rattle.slot.proofs.empty.stuffing_byte.Statement.{statement}
 use Rattle.slot.proofs.empty.stuffing_byte.Tie as tie
 

@@ -5,7 +5,7 @@ use native.Mathlib.Omega.{arith}
 use Rattle.slot.specs.Answer.{slotSeen}
 use Rattle.slot.specs.Read.{Shown}
 use Rattle.slot.specs.declared.answer.SlotRead.{SlotRead}
-use Rattle.slot.proofs.GoodForm.{form-size}
+use Rattle.form.proofs.GoodForm.{form-size}
 use Rattle.slot.proofs.Laws.{shown-empty}
 use Rattle.slot.proofs.Reading.{shown-none, body-size, place-within, reads-body}
 use borrow.Author.Needs.{needs}

@@ -4,7 +4,7 @@ use mathlib.Core.Path.{sym, ap, _∙_}
 use native.Mathlib.Omega.{arith}
 use denote.Ref.{now}
 use Rattle.slot.specs.Read.{Shown}
-use Rattle.slot.proofs.GoodForm.{form-size}
+use Rattle.form.proofs.GoodForm.{form-size}
 use Rattle.slot.proofs.Laws.{shown-empty}
 use Rattle.slot.proofs.Reading.{shown-none, tail-body}
 use borrow.Author.Needs.{needs}

@@ -8,9 +8,9 @@ use native.Mathlib.Omega.{arith}
 use borrow.Author.Tests.{eq-eqb, ne-eqb}
 use lib.ListN.{length}
 use lib.Dec.{leb}
-use Rattle.slot.specs.Envelope.{tag, extension, stuffingTag}
-use Rattle.slot.specs.Form.{byteAt, all, oursTests, stuffedTests, formTests, goodSize, goodFirst, goodRest, goodForm}
-use Rattle.slot.proofs.Tests.{and-true, all-each, each-all, fails, from-tests, to-tests}
+use Rattle.form.specs.Envelope.{tag, extension, stuffingTag}
+use Rattle.form.specs.Form.{byteAt, all, oursTests, stuffedTests, formTests, goodSize, goodFirst, goodRest, goodForm}
+use Rattle.form.proofs.Tests.{and-true, all-each, each-all, fails, from-tests, to-tests}
 
 -- ---- the size
 pub size-facts : (n : ℕ) → goodSize n ≡ true → (21 ≤ n) × (n ≤ 257)

@@ -1,12 +1,12 @@
--- `slot::form::in_form` meets its contract: what the three calls ensure are the three parts of good form.
+-- `form::good::in_form` meets its contract: what the three calls ensure are the three parts of good form.
 -- Assumes nothing.
 use mathlib.Core.Path.{sym, _∙_}
 use mathlib.Core.Bool.{false≢true}
 use native.Mathlib.Omega.{arith}
 use borrow.Author.Needs.{needs}
-use Rattle.slot.proofs.GoodForm.{size-facts, not-form, form-rest}
-use Rattle.slot.proofs.form.in_form.Statement.{statement}
-use Rattle.slot.proofs.form.in_form.Tie as tie
+use Rattle.form.proofs.GoodForm.{size-facts, not-form, form-rest}
+use Rattle.form.proofs.good.in_form.Statement.{statement}
+use Rattle.form.proofs.good.in_form.Tie as tie
 
 is-size-requires : tie.Need-is-size-requires
 is-size-requires c κs = search needs

@@ -8,7 +8,7 @@ use native.Mathlib.Omega.{arith}
 use native.Mathlib.Numerals.{add-one}
 use lib.ListN.{length, getD, set, take, drop, length-replicate, getD-replicate, drop-of-length-le}
 use lib.Seq.{paste, paste-suc, length-paste, take-all}
-use Rattle.slot.specs.Envelope.{stuffingTag, filler, stuffing}
+use Rattle.form.specs.Envelope.{stuffingTag, filler, stuffing}
 
 pub stuffing-length : (m : ℕ) → length (stuffing m) ≡ m
 unfolding stuffing

@@ -1,11 +1,11 @@
 -- When a slot is in good form (document 01, 'Slot and job'): `goodForm`, made of `goodSize`, `goodFirst` and `goodRest`. `byteAt` is a byte of
--- a slot, `all` says that every test of a list holds. Assumes nothing.
-use Prim.Native.Nat.{ℕ, _+_}
+-- a slot, `bodyIn` the body in its first descriptor; `all` says that every test of a list holds. Assumes nothing.
+use Prim.Native.Nat.{ℕ, _+_, _-_}
 use mathlib.Core.List.{List, [], _∷_}
 use mathlib.Core.Bool.{Bool, true, _&&_, _||_}
-use lib.ListN.{length, getD}
+use lib.ListN.{length, getD, take, drop}
 use lib.Dec.{leb, eqb}
-use Rattle.slot.specs.Envelope.{tag, extension, stuffingTag}
+use Rattle.form.specs.Envelope.{tag, extension, stuffingTag, envelopeSize}
 
 -- the byte at a place, 0 behind the end
 abbrev pub byteAt : List ℕ → ℕ → ℕ
@@ -40,3 +40,7 @@ formTests s = goodSize (length s) ∷ goodFirst s ∷ goodRest s (byteAt s 1 + 2
 
 unfoldable pub goodForm : List ℕ → Bool
 goodForm s = all (formTests s)
+
+-- the body of the first descriptor, if that is one of ours: behind tag, length and extension
+abbrev pub bodyIn : List ℕ → List ℕ
+bodyIn s = take (byteAt s 1 - 1) (drop envelopeSize s)

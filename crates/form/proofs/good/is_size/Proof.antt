@@ -1,10 +1,10 @@
--- `slot::form::is_size` meets its contract: each return knows which of the two bounds failed, or that none did.
+-- `form::good::is_size` meets its contract: each return knows which of the two bounds failed, or that none did.
 -- Assumes nothing.
 use mathlib.Core.Path.{sym}
 use native.Mathlib.Omega.{arith}
-use Rattle.slot.proofs.GoodForm.{facts-size, not-size}
-use Rattle.slot.proofs.form.is_size.Statement.{statement}
-use Rattle.slot.proofs.form.is_size.Tie as tie
+use Rattle.form.proofs.GoodForm.{facts-size, not-size}
+use Rattle.form.proofs.good.is_size.Statement.{statement}
+use Rattle.form.proofs.good.is_size.Tie as tie
 
 returns : tie.Need-returns
 returns c = not-size _ (λ f. omega arith)

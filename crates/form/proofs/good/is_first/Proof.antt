@@ -1,11 +1,11 @@
--- `slot::form::is_first` meets its contract: each return knows which test failed, and the last that none did.
+-- `form::good::is_first` meets its contract: each return knows which test failed, and the last that none did.
 -- Assumes nothing.
 use mathlib.Core.Path.{sym}
 use native.Mathlib.Omega.{arith}
 use borrow.Author.Needs.{needs}
-use Rattle.slot.proofs.GoodForm.{first-stuffing, first-ours, not-first}
-use Rattle.slot.proofs.form.is_first.Statement.{statement}
-use Rattle.slot.proofs.form.is_first.Tie as tie
+use Rattle.form.proofs.GoodForm.{first-stuffing, first-ours, not-first}
+use Rattle.form.proofs.good.is_first.Statement.{statement}
+use Rattle.form.proofs.good.is_first.Tie as tie
 
 shared-slice-read-if1 : tie.Need-shared-slice-read-if1
 shared-slice-read-if1 c = search needs

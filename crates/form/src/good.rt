@@ -2,7 +2,7 @@
 ghost use mathlib.Core.Path.{_≡_};
 ghost use Prim.Native.Nat.{_<_, _≤_};
 ghost use lib.ListN.{length};
-ghost use Rattle.slot.specs.Form.{goodSize, goodFirst, goodRest, goodForm};
+ghost use Rattle.form.specs.Form.{goodSize, goodFirst, goodRest, goodForm};
 use crate::envelope::EXTENSION;
 use crate::envelope::STUFFING_TAG;
 use crate::envelope::TAG;

@@ -1,11 +1,11 @@
--- `slot::form::is_rest` meets its contract: each return knows which test failed, and the last that none did.
+-- `form::good::is_rest` meets its contract: each return knows which test failed, and the last that none did.
 -- Assumes nothing.
 use mathlib.Core.Path.{sym}
 use native.Mathlib.Omega.{arith}
 use borrow.Author.Needs.{needs}
-use Rattle.slot.proofs.GoodForm.{rest-end, rest-stuffing, not-rest}
-use Rattle.slot.proofs.form.is_rest.Statement.{statement}
-use Rattle.slot.proofs.form.is_rest.Tie as tie
+use Rattle.form.proofs.GoodForm.{rest-end, rest-stuffing, not-rest}
+use Rattle.form.proofs.good.is_rest.Statement.{statement}
+use Rattle.form.proofs.good.is_rest.Tie as tie
 
 returns : tie.Need-returns
 returns c = sym (rest-end _ _ (omega arith))

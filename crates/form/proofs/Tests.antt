@@ -5,7 +5,7 @@ use mathlib.Core.List.{List, [], _∷_}
 use mathlib.Core.Bool.{Bool, true, false, _&&_, false≢true}
 use Prim.Native.Nat.{ℕ}
 use borrow.Author.Tests.{leb-true, eqb-true, le-leb, eq-eqb}
-use Rattle.slot.specs.Form.{all}
+use Rattle.form.specs.Form.{all}
 
 -- a test that cannot hold is false
 pub fails : (b : Bool) → (b ≡ true → ⊥) → false ≡ b

@@ -1,0 +1,5 @@
+pub mod Tests
+pub mod Stuffing
+pub mod GoodForm
+pub mod Laws
+pub mod Same

@@ -1,0 +1,15 @@
+-- Any two answers that a contract of this crate allows are equal: each is an equation for the answer.
+-- Assumes nothing.
+use mathlib.Core.Path.{_≡_, sym, _∙_}
+use mathlib.Core.Bool.{Bool}
+use mathlib.Core.List.{List}
+use Prim.Native.Nat.{ℕ}
+use Rattle.form.specs.Form.{goodSize, goodForm}
+
+-- `good::is_size`
+pub is-size-same : (n : ℕ) (a b : Bool) → a ≡ goodSize n → b ≡ goodSize n → a ≡ b
+is-size-same n a b p q = p ∙ sym q
+
+-- `good::in_form`
+pub in-form-same : (s : List ℕ) (a b : Bool) → a ≡ goodForm s → b ≡ goodForm s → a ≡ b
+in-form-same s a b p q = p ∙ sym q
