@@ -20,7 +20,7 @@ use Rattle.s2xv2.specs.ListB.{unwritable}
 use Rattle.form.specs.Form.{goodForm}
 use Rattle.form.proofs.GoodForm.{form-size}
 use Rattle.job.specs.Job.{fitsIn}
-use Rattle.job.specs.Begin.{sizeOf, descriptorOf, newJob, beginTold, Begins, beginOf}
+use Rattle.begin.specs.Begin.{sizeOf, descriptorOf, newJob, beginTold, Begins, beginOf}
 use Rattle.job.proofs.Fairness.{fits-facts}
 use Rattle.demand3.specs.Demand3.{Ready}
 

@@ -1,5 +1,5 @@
--- What holds of a step of any job, begun, old or forged: it stores only bytes of its own list; an allowance of 0 changes nothing; and the job that stands where
--- begin was refused is refused. A step runs some of the job's stores, or none.
+-- What holds of a step of any job, begun, old or forged: it stores only bytes of its own list; and an allowance of 0 changes
+-- nothing. A step runs some of the job's stores, or none.
 -- Assumes nothing.
 use mathlib.Core.Path.{_≡_, refl, sym, ap, _∙_}
 use mathlib.Core.Bool.{Bool, true, false}
@@ -15,8 +15,6 @@ use Rattle.stores.proofs.Laws.{run-own, member-take, member-drop}
 use Rattle.job.specs.declared.job.Job.{Job}
 use Rattle.job.specs.Job.{todo, left, nextStores, withMade, fair}
 use Rattle.job.specs.Step.{Steps, accepts, refuses, stepCount, stepOf, slotAfter}
-use Rattle.job.specs.Begin.{noJob}
-use Rattle.job.proofs.Fairness.{unfair}
 use Rattle.demand3.specs.Stepping.{Going, step}
 
 -- ---- only its own bytes
@@ -50,16 +48,3 @@ zero-slot false j s = refl
 pub step-zero : (g : Going) → step g 0 ≡ g
 unfolding stepOf slotAfter
 step-zero g = rw (none-made (g .job), zero-job (fair (g .job) (length (g .slot))) (g .job), zero-slot (fair (g .job) (length (g .slot))) (g .job) (g .slot))
-
--- ---- where begin was refused
-no-job-unfair : (n : ℕ) → fair noJob n ≡ false
-no-job-unfair n = sym (unfair noJob n (λ f. omega arith))
-
--- Step refuses the job of a refused begin, on every slot, and stores nothing.
-pub no-job-refused : (n a : ℕ) → stepOf noJob n a ≡ refuses noJob
-unfolding stepOf
-no-job-refused n a = rw (no-job-unfair n)
-
-pub no-job-stores-nothing : (s : List ℕ) (a : ℕ) → slotAfter noJob s a ≡ s
-unfolding slotAfter
-no-job-stores-nothing s a = rw (no-job-unfair (length s))

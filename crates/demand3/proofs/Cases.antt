@@ -17,7 +17,7 @@ use Rattle.form.specs.Envelope.{stuffing}
 use Rattle.form.specs.Form.{goodSize, goodFirst, goodRest, goodForm}
 use Rattle.job.specs.Job.{fitsIn, fair}
 use Rattle.job.specs.Step.{stepOf}
-use Rattle.job.specs.Begin.{beginTold, beginOf}
+use Rattle.begin.specs.Begin.{beginTold, beginOf}
 
 -- the answer of begin, for the record whose body is 18 bytes of 0, on an empty slot of n bytes
 abbrev begin : ℕ → List ℕ

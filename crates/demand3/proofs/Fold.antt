@@ -25,7 +25,7 @@ use Rattle.form.proofs.GoodForm.{form-size}
 use Rattle.slot.proofs.Laws.{cover, retag, image}
 use Rattle.job.specs.Stores.{behind, covered, stores}
 use Rattle.job.specs.Job.{fitsIn}
-use Rattle.job.specs.Begin.{sizeOf, descriptorOf}
+use Rattle.begin.specs.Begin.{sizeOf, descriptorOf}
 use Rattle.job.proofs.Lists.{behind-length}
 use Rattle.job.proofs.Fairness.{fits-facts}
 use Rattle.demand3.specs.Demand3.{Ready, jobStores, holds, readsAfter, due}

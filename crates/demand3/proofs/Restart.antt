@@ -14,7 +14,7 @@ use Rattle.stores.specs.Run.{run}
 use Rattle.stores.proofs.Laws.{run-length}
 use Rattle.form.specs.Envelope.{holding}
 use Rattle.form.specs.Form.{goodForm}
-use Rattle.job.specs.Begin.{beginTold, beginOf, descriptorOf}
+use Rattle.begin.specs.Begin.{beginTold, beginOf, descriptorOf}
 use Rattle.job.proofs.Lists.{stores-length}
 use Rattle.job.proofs.Fairness.{fits-facts}
 use Rattle.demand3.specs.Demand3.{Ready, jobStores, due}

@@ -18,7 +18,7 @@ use Rattle.job.specs.declared.job.Job.{Job}
 use Rattle.job.specs.Stores.{stores}
 use Rattle.job.specs.Job.{todo, withMade, fair, Fair}
 use Rattle.job.specs.Step.{stepOf, slotAfter}
-use Rattle.job.specs.Begin.{padded, newJob, descriptorOf, sizeOf, Begins, beginOf}
+use Rattle.begin.specs.Begin.{padded, newJob, descriptorOf, sizeOf, Begins, beginOf}
 use Rattle.job.proofs.Lists.{first-all}
 use Rattle.job.proofs.Fairness.{facts-fair, fits-facts}
 use Rattle.demand3.specs.Demand3.{Ready, jobStores, due}

@@ -21,7 +21,7 @@ use Rattle.form.specs.Form.{goodForm}
 use Rattle.slot.specs.Read.{Shown, showsEmpty, shown}
 use Rattle.job.specs.Stores.{stores}
 use Rattle.job.specs.Job.{fitsIn}
-use Rattle.job.specs.Begin.{sizeOf, descriptorOf}
+use Rattle.begin.specs.Begin.{sizeOf, descriptorOf}
 
 -- a slot in good form, a record that lists A and B pass, and a descriptor that fits; `held` and `bytes` are what the types say
 pub record Ready (s : List ℕ) (r : S2Xv2SatelliteDeliverySystem) (tail : List ℕ) : Type 0 where

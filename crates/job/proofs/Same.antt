@@ -5,17 +5,12 @@ use mathlib.Core.Bool.{Bool}
 use mathlib.Core.List.{List, [], _∷_}
 use Prim.Native.Nat.{ℕ, zero, suc}
 use lib.ListN.{length}
-use Rattle.s2xv2.specs.declared.answer.Answer.{Answer}
-use Rattle.s2xv2.specs.declared.record.S2Xv2SatelliteDeliverySystem.{S2Xv2SatelliteDeliverySystem}
-use Rattle.s2xv2.proofs.Answers.{same-told}
 use Rattle.job.specs.declared.job.Job.{Job}
 use Rattle.job.specs.declared.job.StepAnswer.{StepAnswer}
 use Rattle.job.specs.declared.job.StepAnswer.the-variants.{Accepted, OtherSize}
 use Rattle.job.specs.declared.job.Stepped.{Stepped}
 use Rattle.job.specs.declared.advance.Moved.{Moved}
-use Rattle.job.specs.declared.begin.Begun.{Begun}
 use Rattle.job.specs.Step.{stepTold, Steps, stepSeen, movedSeen, stepOf, slotAfter}
-use Rattle.job.specs.Begin.{Begins, begunSeen, beginOf}
 
 -- number 0 is accepted, and any other is the refusal
 answerOf : List ℕ → StepAnswer
@@ -41,15 +36,6 @@ same-moved : (j : Job) (a b : Moved) → movedSeen j a ≡ movedSeen j b → a �
 same-moved j a b e =
     ap {B = Moved} (λ (x : StepAnswer). record { answer = x; stores = a .stores; done = a .done; made = a .made }) (same-step-told (a .answer) (b .answer) (ap (λ (x : Steps). x .told) e))
     ∙ ap {B = Moved} (λ (x : Steps). record { answer = b .answer; stores = x .made; done = x .done; made = x .job .«stores_made» }) e
-
-same-begun : (a b : Begun) → begunSeen a ≡ begunSeen b → a ≡ b
-same-begun a b e =
-    ap {B = Begun} (λ (x : Answer). record { answer = x; job = a .job }) (same-told (a .answer) (b .answer) (ap (λ (x : Begins). x .told) e))
-    ∙ ap {B = Begun} (λ (x : Begins). record { answer = b .answer; job = x .job }) e
-
--- `begin::begin`
-pub begin-same : (s : List ℕ) (r : S2Xv2SatelliteDeliverySystem) (tail : List ℕ) (a b : Begun) → begunSeen a ≡ beginOf s r tail → begunSeen b ≡ beginOf s r tail → a ≡ b
-begin-same s r tail a b p q = same-begun a b (p ∙ sym q)
 
 -- `job::Job::step`: the answer with its job, and the slot
 pub step-same : (j : Job) (s : List ℕ) (n : ℕ) (a b : Stepped) → stepSeen a ≡ stepOf j (length s) n → stepSeen b ≡ stepOf j (length s) n → a ≡ b

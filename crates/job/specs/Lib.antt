@@ -1,4 +1,3 @@
 pub mod Stores
 pub mod Job
 pub mod Step
-pub mod Begin

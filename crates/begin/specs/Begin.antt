@@ -13,9 +13,9 @@ use Rattle.s2xv2.specs.ListA.{inconsistency}
 use Rattle.s2xv2.specs.ListB.{unwritable}
 use Rattle.form.specs.Envelope.{envelope, envelopeSize}
 use Rattle.form.specs.Form.{goodForm}
 use Rattle.job.specs.declared.job.Job.{Job}
-use Rattle.job.specs.declared.begin.Begun.{Begun}
 use Rattle.job.specs.Job.{jobOf, fitsIn}
+use Rattle.begin.specs.declared.Begun.{Begun}
 
 -- how many bytes a job has for its descriptor
 abbrev pub stagedSize : ℕ

@@ -1,5 +1,5 @@
-// Beginning a job.
-use crate::job::Job;
+// Begins a job.
+use job::job::Job;
 use s2xv2::answer::Answer;
 
 // The answer, and the job: where begin is refused all of its bytes and numbers are 0, and step refuses it.

@@ -1,0 +1,2 @@
+pub mod NoJob
+pub mod Same
