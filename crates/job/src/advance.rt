@@ -2,6 +2,8 @@
 ghost use mathlib.Core.Path.{_≡_};
 ghost use Prim.Native.Nat.{_+_, min};
 ghost use mathlib.Core.List.{[]};
+ghost use mathlib.Core.Bool.{false};
+ghost use Rattle.job.specs.declared.job.StepAnswer.the-variants.{Accepted, OtherSize};
 ghost use lib.ListN.{length};
 ghost use Rattle.job.specs.Job.{jobOf, fair};
 ghost use Rattle.job.specs.Step.{movedSeen, stepOf, slotAfter};
@@ -51,6 +53,29 @@ fn smaller(a: usize, b: usize) -> usize
     if a < b { a } else { b }
 }
 
+// A step that is accepted, and one that is refused.
+fn accepted(made: usize, stores: usize, done: bool) -> Moved
+    ensures { λ r. ⌜ r ≡ record { made = made; answer = Accepted; stores = stores; done = done } ⌝ }
+{
+    Moved {
+        made: made,
+        answer: StepAnswer::Accepted,
+        stores: stores,
+        done: done,
+    }
+}
+
+fn refused(made: usize) -> Moved
+    ensures { λ r. ⌜ r ≡ record { made = made; answer = OtherSize; stores = 0; done = false } ⌝ }
+{
+    Moved {
+        made: made,
+        answer: StepAnswer::OtherSize,
+        stores: 0,
+        done: false,
+    }
+}
+
 // Makes the smaller of the allowance and the stores left of the job that has these parts, or refuses it with answer 8 and stores nothing.
 pub fn advance(
     staged: &[u8; 257],
@@ -68,18 +93,7 @@ pub fn advance(
         let left = n + 2 - k;
         let count = smaller(allowance, left);
         make_stores(staged, n, d, k, slot, count);
-        Moved {
-            made: k + count,
-            answer: StepAnswer::Accepted,
-            stores: count,
-            done: count == left,
-        }
-    } else {
-        Moved {
-            made: k,
-            answer: StepAnswer::OtherSize,
-            stores: 0,
-            done: false,
-        }
+        return accepted(k + count, count, count == left);
     }
+    refused(k)
 }

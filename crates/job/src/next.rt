@@ -73,7 +73,14 @@ fn store_next(staged: &[u8; 257], n: usize, d: usize, k: usize, slot: &mut [u8])
 }
 
 // Makes the job's next `count` stores, one call of `store_next` each.
-pub fn make_stores(staged: &[u8; 257], n: usize, d: usize, k: usize, slot: &mut [u8], count: usize)
+pub(crate) fn make_stores(
+    staged: &[u8; 257],
+    n: usize,
+    d: usize,
+    k: usize,
+    slot: &mut [u8],
+    count: usize,
+)
     requires { ⌜ Fair (jobOf (now staged) n d k) × ((k + count ≤ n + 2) × (length (now slot) ≡ n)) ⌝ }
     ensures { λ _. ⌜ now (slot .exit) ≡ run (nextStores (jobOf (now (staged .entry)) n d k) count) (now (slot .entry)) ⌝ }
 {

@@ -1,11 +1,12 @@
 -- `job::advance::advance` meets its contract: a fair job makes its next stores, as many as `smaller` says, and one that is not fair none.
 -- Assumes nothing.
-use mathlib.Core.Path.{sym, _∙_}
+use mathlib.Core.Path.{sym, ap, _∙_}
 use native.Mathlib.Omega.{arith}
 use denote.Ref.{now}
 use Rattle.job.specs.Job.{jobOf}
+use Rattle.job.specs.Step.{movedSeen}
 use Rattle.job.proofs.Fairness.{fair-facts, fair-bare}
-use Rattle.job.proofs.Advancing.{accepted, accepted-slot, refused, refused-slot}
+use Rattle.job.proofs.Advancing as A
 use borrow.Author.Needs.{needs}
 use Rattle.job.proofs.advance.advance.Statement.{statement}
 use Rattle.job.proofs.advance.advance.Tie as tie
@@ -27,26 +28,32 @@ make-stores-requires c κs =
     let f = fair-facts _ _ (sym (c .before .before .before .is-fair .ensures) ∙ c .before .before .if1 .taken) in
     (omega arith, (omega arith, sym (f .0)))
 
-add-t12 : tie.Need-add-t12
-add-t12 c = let f = fair-facts _ _ (sym (c .before .before .before .before .before .before .is-fair .ensures) ∙ c .before .before .before .before .before .if1 .taken) in omega arith
+add-accepted : tie.Need-add-accepted
+add-accepted c = let f = fair-facts _ _ (sym (c .before .before .before .before .before .before .is-fair .ensures) ∙ c .before .before .before .before .before .if1 .taken) in omega arith
+
+accepted-requires : tie.Need-accepted-requires
+accepted-requires c κs = search needs
 
 same-length : tie.Need-same-length
 same-length c = search needs
 
 returns : tie.Need-returns
 returns c =
-    let a = c .before .before .before .before .before .before .before .before .args in
+    let a = c .before .before .before .before .before .before .before .before .before .args in
     let j = jobOf (now (a .staged)) (a .n) (a .d) (a .k) in
-    let f = sym (fair-bare (now (a .staged)) _ _ _ _) ∙ sym (c .before .before .before .before .before .before .is-fair .ensures) ∙ c .before .before .before .before .before .if1 .taken in
-    let k = c .before .before .before .before .smaller .ensures in
-    (accepted j (now (a .slot)) (a .allowance) f k, accepted-slot j (now (a .slot)) (a .allowance) f k (c .before .before .make-stores .ensures))
+    let f = sym (fair-bare (now (a .staged)) _ _ _ _) ∙ sym (c .before .before .before .before .before .before .before .is-fair .ensures) ∙ c .before .before .before .before .before .before .if1 .taken in
+    let k = c .before .before .before .before .before .smaller .ensures in
+    (ap (movedSeen j) (c .accepted .ensures) ∙ A.accepted j (now (a .slot)) (a .allowance) f k, A.accepted-slot j (now (a .slot)) (a .allowance) f k (c .before .before .before .make-stores .ensures))
+
+refused-requires : tie.Need-refused-requires
+refused-requires c κs = search needs
 
 returns-2 : tie.Need-returns-2
 returns-2 c =
-    let a = c .before .before .before .args in
+    let a = c .before .before .before .before .args in
     let j = jobOf (now (a .staged)) (a .n) (a .d) (a .k) in
-    let f = sym (fair-bare (now (a .staged)) _ _ _ _) ∙ sym (c .before .is-fair .ensures) ∙ c .if1 .left in
-    (refused j (now (a .slot)) (a .allowance) f, refused-slot j (now (a .slot)) (a .allowance) f)
+    let f = sym (fair-bare (now (a .staged)) _ _ _ _) ∙ sym (c .before .before .is-fair .ensures) ∙ c .before .if1 .left in
+    (ap (movedSeen j) (c .refused .ensures) ∙ A.refused j (now (a .slot)) (a .allowance) f, A.refused-slot j (now (a .slot)) (a .allowance) f)
 
 pub advance-spec : {M : Type 1} → statement M
 advance-spec =
@@ -57,7 +64,9 @@ advance-spec =
     sub-left
     smaller-requires
     make-stores-requires
-    add-t12
+    add-accepted
+    accepted-requires
     same-length
     returns
+    refused-requires
     returns-2)
