@@ -18,9 +18,9 @@ use Rattle.begin.specs.Begin.{beginTold, beginOf, descriptorOf}
 use Rattle.job.proofs.Lists.{stores-length}
 use Rattle.job.proofs.Fairness.{fits-facts}
 use Rattle.demand3.specs.Demand3.{Ready, jobStores, due}
-use Rattle.demand3.specs.Stepping.{Going, stepping, sum}
+use Rattle.demand3.specs.Stepping.{Going, begun, stepping, sum}
 use Rattle.demand3.proofs.Fold.{fits-it, ends, demand3}
-use Rattle.demand3.proofs.Steps.{begun, after-steps, demand3-steps}
+use Rattle.demand3.proofs.Steps.{after-steps, demand3-steps}
 
 -- begin asks of a slot only its form and its size
 same-told : (s t : List ℕ) (r : S2Xv2SatelliteDeliverySystem) (tail : List ℕ) → goodForm t ≡ goodForm s → length t ≡ length s → beginTold t r tail ≡ beginTold s r tail

@@ -22,7 +22,7 @@ use Rattle.begin.specs.Begin.{padded, newJob, descriptorOf, sizeOf, Begins, beg
 use Rattle.job.proofs.Lists.{first-all}
 use Rattle.job.proofs.Fairness.{facts-fair, fits-facts}
 use Rattle.demand3.specs.Demand3.{Ready, jobStores, due}
-use Rattle.demand3.specs.Stepping.{Going, step, stepping, sum, AllPositive}
+use Rattle.demand3.specs.Stepping.{Going, begun, step, stepping, sum, AllPositive}
 use Rattle.demand3.proofs.Fold.{size-is, fits-it, demand3}
 use Rattle.demand3.proofs.Accepts.{begins}
 
@@ -77,10 +77,6 @@ sum-least (a ∷ more) p = let l = sum-least more (p .1) in omega arith
 begun-todo : (n : ℕ) (ds : List ℕ) → todo (newJob n ds) ≡ stores n ds
 unfolding todo padded
 begun-todo n ds = ap (stores n) (first-all ds (replicate (257 - length ds) 0))
-
--- the job begun for a record, and its slot
-abbrev pub begun : List ℕ → S2Xv2SatelliteDeliverySystem → List ℕ → Going
-begun s r tail = record { job = beginOf s r tail .job; slot = s }
 
 module _ {s : List ℕ} {r : S2Xv2SatelliteDeliverySystem} {tail : List ℕ} (R : Ready s r tail) where
   abbrev its-job : Job

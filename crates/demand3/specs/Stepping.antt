@@ -1,14 +1,20 @@
--- A job and its slot under steps: `Going` is both, `stepping` takes them through steps with given allowances, as the contract of step says; `sum` adds the
+-- A job and its slot under steps: `Going` is both, `begun` where begin leaves them, `stepping` takes them through steps with given allowances, as the contract of step says; `sum` adds the
 -- allowances, and `AllPositive` says that each is at least 1. Assumes nothing.
 use Prim.Native.Nat.{ℕ, _+_, _≤_}
 use mathlib.Core.List.{List, [], _∷_}
 use lib.ListN.{length}
 use Rattle.job.specs.declared.job.Job.{Job}
 use Rattle.job.specs.Step.{stepOf, slotAfter}
+use Rattle.begin.specs.Begin.{beginOf}
+use Rattle.s2xv2.specs.declared.record.S2Xv2SatelliteDeliverySystem.{S2Xv2SatelliteDeliverySystem}
 
 pub record Going : Type 0 where
   pub job : Job
   pub slot : List ℕ
+
+-- the job begun for a record and its tail, and the slot
+abbrev pub begun : List ℕ → S2Xv2SatelliteDeliverySystem → List ℕ → Going
+begun s r tail = record { job = beginOf s r tail .job; slot = s }
 
 -- one step, and one after the other
 abbrev pub step : Going → ℕ → Going
