@@ -1,2 +1,4 @@
+pub mod Telling
+pub mod Staging
 pub mod NoJob
 pub mod Same

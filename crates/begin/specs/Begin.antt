@@ -1,6 +1,8 @@
--- What begin answers: `beginTold` in numbers, and `beginOf` with the job, which is `newJob` or, if it is refused, `noJob`. `begunSeen` is an answer so.
--- `padded` is a descriptor as it is staged. Assumes nothing.
-use Prim.Native.Nat.{ℕ, _+_, _-_}
+-- What begin answers: `beginTold` in numbers, made of `fitTold` and `stageTold`, and `beginOf` with the job, which is `newJob` or, if it is refused, `noJob`
+-- (`answered`); `begunSeen` is an answer so. `sizeOf` and `descriptorOf` are the descriptor of a record and its tail, `padded` as it is staged in
+-- `stagedSize` bytes; `Sized` is what the private functions require of sizes. Assumes nothing.
+use Prim.Native.Nat.{ℕ, _+_, _-_, _≤_}
+use mathlib.Core.Path.{_≡_}
 use mathlib.Core.List.{List, [], _∷_, _++_}
 use lib.ListN.{length, replicate}
 use lib.Dec.{eqb, ltb}
@@ -39,15 +41,27 @@ sizeOf r tail = encodedLength r tail + envelopeSize
 abbrev pub descriptorOf : S2Xv2SatelliteDeliverySystem → List ℕ → List ℕ
 descriptorOf r tail = envelope (encode r tail)
 
+-- a descriptor of d bytes for a slot of n: what the private functions require
+pub record Sized (n d : ℕ) (r : S2Xv2SatelliteDeliverySystem) (tail : List ℕ) : Type 0 where
+  pub slot : (21 ≤ n) × (n ≤ 257)
+  pub size : d ≡ sizeOf r tail
+  pub within : encodedLength r tail ≤ 4096
+  pub consistent : inconsistency r ≡ 0
+
+-- what is told once the descriptor is known to fit a slot of n bytes: 4, else accepted with the number of stores
+unfoldable pub stageTold : ℕ → S2Xv2SatelliteDeliverySystem → List ℕ
+stageTold n r = when (ltb 0 (unwritable r)) (4 ∷ unwritable r ∷ []) (0 ∷ (n + 2) ∷ [])
+
+-- .. once its length is known: 7 before that
+unfoldable pub fitTold : ℕ → S2Xv2SatelliteDeliverySystem → List ℕ → List ℕ
+fitTold n r tail = when (fitsIn (sizeOf r tail) n) (stageTold n r) (7 ∷ sizeOf r tail ∷ [])
+
 -- 6, 3, 2, 7, 4, in this order, else accepted with the number of stores
 unfoldable pub beginTold : List ℕ → S2Xv2SatelliteDeliverySystem → List ℕ → List ℕ
 beginTold s r tail =
     when (goodForm s)
     (when (ltb 0 (inconsistency r)) (3 ∷ inconsistency r ∷ [])
-    (when (ltb 4096 (encodedLength r tail)) (2 ∷ saturated (encodedLength r tail) ∷ [])
-    (when (fitsIn (sizeOf r tail) (length s))
-    (when (ltb 0 (unwritable r)) (4 ∷ unwritable r ∷ []) (0 ∷ (length s + 2) ∷ []))
-    (7 ∷ sizeOf r tail ∷ []))))
+    (when (ltb 4096 (encodedLength r tail)) (2 ∷ saturated (encodedLength r tail) ∷ []) (fitTold (length s) r tail)))
     (6 ∷ [])
 
 -- the answer in numbers, and the job
@@ -58,9 +72,10 @@ pub record Begins : Type 0 where
 abbrev pub begunSeen : Begun → Begins
 begunSeen b = record { told = told (b .answer); job = b .job }
 
+-- the job goes with number 0, and no job with any other
+abbrev pub answered : List ℕ → ℕ → S2Xv2SatelliteDeliverySystem → List ℕ → Begins
+answered told n r tail = record { told = told; job = when (eqb (numberOf told) 0) (newJob n (descriptorOf r tail)) noJob }
+
 -- WHAT BEGIN ANSWERS for a slot, a record and its tail
 unfoldable pub beginOf : List ℕ → S2Xv2SatelliteDeliverySystem → List ℕ → Begins
-beginOf s r tail = record {
-  told = beginTold s r tail;
-  job = when (eqb (numberOf (beginTold s r tail)) 0) (newJob (length s) (descriptorOf r tail)) noJob;
-}
+beginOf s r tail = answered (beginTold s r tail) (length s) r tail

@@ -20,13 +20,13 @@ use Rattle.s2xv2.specs.ListB.{unwritable}
 use Rattle.form.specs.Form.{goodForm}
 use Rattle.form.proofs.GoodForm.{form-size}
 use Rattle.job.specs.Job.{fitsIn}
-use Rattle.begin.specs.Begin.{sizeOf, descriptorOf, newJob, beginTold, Begins, beginOf}
+use Rattle.begin.specs.Begin.{sizeOf, descriptorOf, newJob, beginTold, fitTold, stageTold, Begins, beginOf}
 use Rattle.job.proofs.Fairness.{fits-facts}
 use Rattle.demand3.specs.Demand3.{Ready}
 
 -- what begin tells where all of its tests pass
 pub told-ready : {s : List ℕ} {r : S2Xv2SatelliteDeliverySystem} {tail : List ℕ} → Ready s r tail → beginTold s r tail ≡ 0 ∷ (length s + 2) ∷ []
-unfolding beginTold
+unfolding beginTold fitTold stageTold
 told-ready {s} {r} {tail} R =
     let n = form-size s (R .form) in
     let f = fits-facts (sizeOf r tail) (length s) (R .fits) in
@@ -62,7 +62,7 @@ module _ (s : List ℕ) (r : S2Xv2SatelliteDeliverySystem) (tail : List ℕ) whe
 
   -- Where begin accepts a record, with what the types say of it and of its tail, demand 3 speaks.
   pub ready : Held r → Bytes tail → numberOf (beginTold s r tail) ≡ 0 → Ready s r tail
-  unfolding beginTold
+  unfolding beginTold fitTold stageTold
   ready h b e =
       let a₆ = zero-then (goodForm s) told₃ (6 ∷ []) e (λ (z : _≡_ {A = ℕ} 6 0). omega arith) in
       let a₃ = zero-else (ltb 0 (inconsistency r)) (3 ∷ inconsistency r ∷ []) told₂ (a₆ .1) (λ (z : _≡_ {A = ℕ} 3 0). omega arith) in

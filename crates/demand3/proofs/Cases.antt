@@ -17,7 +17,7 @@ use Rattle.form.specs.Envelope.{stuffing}
 use Rattle.form.specs.Form.{goodSize, goodFirst, goodRest, goodForm}
 use Rattle.job.specs.Job.{fitsIn, fair}
 use Rattle.job.specs.Step.{stepOf}
-use Rattle.begin.specs.Begin.{beginTold, beginOf}
+use Rattle.begin.specs.Begin.{beginTold, fitTold, stageTold, beginOf}
 
 -- the answer of begin, for the record whose body is 18 bytes of 0, on an empty slot of n bytes
 abbrev begin : ℕ → List ℕ
@@ -37,15 +37,15 @@ slotTable =
 
 -- Every row of the whole table, bodies and slots, is right.
 pub cases : right (table ++ slotTable) ≡ true
-unfolding beginTold beginOf stepOf fair fitsIn goodForm goodSize goodFirst goodRest stuffing defaultRecord encode encodedLength partsOf byteParts scramblingParts bondParts superframeParts inconsistency unwritable readTold presentIn bodySize recordAt superframeAt modeOf
+unfolding beginTold fitTold stageTold beginOf stepOf fair fitsIn goodForm goodSize goodFirst goodRest stuffing defaultRecord encode encodedLength partsOf byteParts scramblingParts bondParts superframeParts inconsistency unwritable readTold presentIn bodySize recordAt superframeAt modeOf
 cases = refl
 
 -- The two rows hold of every slot in good form and every record with a body of 18 bytes that lists A and B pass.
 module _ (s : List ℕ) (r : S2Xv2SatelliteDeliverySystem) (tail : List ℕ) (form : goodForm s ≡ true) (a : inconsistency r ≡ 0) (l : encodedLength r tail ≡ 18) where
   pub slot-22 : length s ≡ 22 → beginTold s r tail ≡ 7 ∷ 21 ∷ []
-  unfolding beginTold fitsIn
+  unfolding beginTold fitTold stageTold fitsIn
   slot-22 n = rw (form, a, l, n)
 
   pub slot-21 : unwritable r ≡ 0 → length s ≡ 21 → beginTold s r tail ≡ 0 ∷ 23 ∷ []
-  unfolding beginTold fitsIn
+  unfolding beginTold fitTold stageTold fitsIn
   slot-21 b n = rw (form, a, l, n, b)

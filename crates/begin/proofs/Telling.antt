@@ -1,0 +1,103 @@
+-- What begin tells, by the way through the code: each test of the definition is one that the code or the writer has made, and a refusal is never number 0.
+-- Assumes nothing.
+use mathlib.Core.Path.{_≡_, refl, sym, ap, _∙_}
+use mathlib.Core.Bool.{Bool, true, false}
+use mathlib.Core.List.{List, [], _∷_}
+use Prim.Native.Nat.{ℕ, _+_, _≤_}
+use native.Mathlib.Omega.{arith}
+use borrow.Author.Tests.{le-ltb, ltb-false, eqb-false}
+use lib.ListN.{length}
+use lib.Dec.{ltb}
+use Rattle.wire.specs.Flags.{when}
+use Rattle.s2xv2.specs.declared.record.S2Xv2SatelliteDeliverySystem.{S2Xv2SatelliteDeliverySystem}
+use Rattle.s2xv2.specs.declared.answer.Refusal.{Refusal}
+use Rattle.s2xv2.specs.Answer.{numbers, saturated}
+use Rattle.s2xv2.specs.Read.{numberOf}
+use Rattle.s2xv2.specs.Encode.{encodedLength}
+use Rattle.s2xv2.specs.ListA.{inconsistency}
+use Rattle.s2xv2.specs.ListB.{unwritable}
+use Rattle.s2xv2.specs.Length.{lengthTold}
+use Rattle.s2xv2.specs.Write.{writeTold}
+use Rattle.s2xv2.proofs.Reach.{refused-number}
+use Rattle.form.specs.Form.{goodForm}
+use Rattle.job.specs.declared.job.Job.{Job}
+use Rattle.job.specs.Job.{fitsIn}
+use Rattle.job.proofs.Fairness.{facts-fits, not-fits}
+use Rattle.begin.specs.Begin.{newJob, noJob, sizeOf, descriptorOf, Sized, stageTold, fitTold, beginTold, Begins, answered}
+
+-- ---- an answer and its job
+module _ (n : ℕ) (r : S2Xv2SatelliteDeliverySystem) (tail : List ℕ) where
+  pub refuses : (why : Refusal) (told : List ℕ) → numbers why ≡ told → _≡_ {A = Begins} (record { told = numbers why; job = noJob }) (answered told n r tail)
+  refuses why told e = rw (← e, refused-number why)
+
+  pub accepts : (told : List ℕ) (m : ℕ) (job : Job) → 0 ∷ m ∷ [] ≡ told → job ≡ newJob n (descriptorOf r tail)
+      → _≡_ {A = Begins} (record { told = 0 ∷ m ∷ []; job = job }) (answered told n r tail)
+  accepts told m job e q = rw (← e, q)
+
+-- a refusal is not number 0
+not-zero : (why : Refusal) (l : List ℕ) → numbers why ≡ 0 ∷ l → ⊥
+not-zero why l e = eqb-false (numberOf (numbers why)) 0 (refused-number why) (ap numberOf e)
+
+-- a pick that tells a refusal is no other where the accepted answer is another
+pick-refused : (c : Bool) (why : Refusal) (a b l : List ℕ) → numbers why ≡ when c a (0 ∷ l) → numbers why ≡ when c a b
+pick-refused true why a b l e = e
+pick-refused false why a b l e = absurd (not-zero why l e)
+
+-- ---- 6, then 3 and 2, as the length call tells them
+module _ (s : List ℕ) (r : S2Xv2SatelliteDeliverySystem) (tail : List ℕ) where
+  pub told-slot : goodForm s ≡ false → 6 ∷ [] ≡ beginTold s r tail
+  unfolding beginTold
+  told-slot f = rw f
+
+  two-refused : (c₃ c₂ : Bool) (why : Refusal) (a₃ a₂ b l : List ℕ) → numbers why ≡ when c₃ a₃ (when c₂ a₂ (0 ∷ l)) → numbers why ≡ when c₃ a₃ (when c₂ a₂ b)
+  two-refused true c₂ why a₃ a₂ b l e = e
+  two-refused false c₂ why a₃ a₂ b l e = pick-refused c₂ why a₂ b l e
+
+  pub told-length : goodForm s ≡ true → (why : Refusal) → numbers why ≡ lengthTold r tail → numbers why ≡ beginTold s r tail
+  unfolding beginTold lengthTold
+  told-length f why e =
+      rw f
+      (two-refused (ltb 0 (inconsistency r)) (ltb 4096 (encodedLength r tail)) why (3 ∷ inconsistency r ∷ []) (2 ∷ saturated (encodedLength r tail) ∷ []) _ (encodedLength r tail ∷ []) e)
+
+  pub told-fit : goodForm s ≡ true → inconsistency r ≡ 0 → encodedLength r tail ≤ 4096 → fitTold (length s) r tail ≡ beginTold s r tail
+  unfolding beginTold
+  told-fit f a l = rw (f, a, le-ltb 4096 (encodedLength r tail) l)
+
+zero-pick : (c : Bool) (k m : ℕ) (l : List ℕ) (b : List ℕ) → 0 ∷ m ∷ [] ≡ when c (k ∷ l) b → (k ≡ 0 → ⊥) → (c ≡ false) × (0 ∷ m ∷ [] ≡ b)
+zero-pick true k m l b e h = absurd (h (ap numberOf (sym e)))
+zero-pick false k m l b e h = (refl, e)
+
+-- where the length call accepts, both tests are passed, and it tells the length
+pub length-accepted : (r : S2Xv2SatelliteDeliverySystem) (tail : List ℕ) (m : ℕ) → 0 ∷ m ∷ [] ≡ lengthTold r tail
+    → (inconsistency r ≡ 0) × ((encodedLength r tail ≤ 4096) × (m ≡ encodedLength r tail))
+unfolding lengthTold
+length-accepted r tail m e =
+    let a = zero-pick (ltb 0 (inconsistency r)) 3 m (inconsistency r ∷ []) _ e (λ (z : _≡_ {A = ℕ} 3 0). omega arith) in
+    let b = zero-pick (ltb 4096 (encodedLength r tail)) 2 m (saturated (encodedLength r tail) ∷ []) _ (a .1) (λ (z : _≡_ {A = ℕ} 2 0). omega arith) in
+    let i : inconsistency r ≤ 0 = ltb-false 0 (inconsistency r) (a .0) in
+    let q : m ≡ encodedLength r tail = cc in
+    (omega arith, (ltb-false 4096 (encodedLength r tail) (b .0), q))
+
+-- ---- 7
+module _ {n d : ℕ} {r : S2Xv2SatelliteDeliverySystem} {tail : List ℕ} (S : Sized n d r tail) where
+  pub told-no-fit : ((d ≤ n) × (d + 1 ≡ n → ⊥) → ⊥) → 7 ∷ d ∷ [] ≡ fitTold n r tail
+  unfolding fitTold
+  told-no-fit h = rw (S .size, not-fits (sizeOf r tail) n (rw (S .size) at h))
+
+  pub told-fits : d ≤ n → (d + 1 ≡ n → ⊥) → stageTold n r ≡ fitTold n r tail
+  unfolding fitTold
+  told-fits l g = rw (facts-fits (sizeOf r tail) n (rw (S .size) at l, rw (S .size) at g))
+
+-- ---- 4, as the writer tells it where 3, 2 and 5 are passed
+module _ (n : ℕ) (r : S2Xv2SatelliteDeliverySystem) (tail : List ℕ) (room : ℕ) (a : inconsistency r ≡ 0) (l : encodedLength r tail ≤ 4096) (h : encodedLength r tail ≤ room) where
+  write-told : writeTold r tail room ≡ when (ltb 0 (unwritable r)) (4 ∷ unwritable r ∷ []) (0 ∷ encodedLength r tail ∷ [])
+  unfolding writeTold
+  write-told = rw (a, le-ltb 4096 (encodedLength r tail) l, le-ltb room (encodedLength r tail) h)
+
+  pub told-field : (why : Refusal) → numbers why ≡ writeTold r tail room → numbers why ≡ stageTold n r
+  unfolding stageTold
+  told-field why e = pick-refused (ltb 0 (unwritable r)) why (4 ∷ unwritable r ∷ []) (0 ∷ (n + 2) ∷ []) (encodedLength r tail ∷ []) (e ∙ write-told)
+
+  pub told-stores : (m : ℕ) → 0 ∷ m ∷ [] ≡ writeTold r tail room → 0 ∷ (n + 2) ∷ [] ≡ stageTold n r
+  unfolding stageTold
+  told-stores m e = rw (zero-pick (ltb 0 (unwritable r)) 4 m (unwritable r ∷ []) _ (e ∙ write-told) (λ (z : _≡_ {A = ℕ} 4 0). omega arith) .0)
