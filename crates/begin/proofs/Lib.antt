@@ -1,4 +1,4 @@
 pub mod Telling
 pub mod Staging
 pub mod NoJob
-pub mod Same
+pub mod Equal

@@ -12,6 +12,7 @@ use Rattle.s2xv2.specs.Read.{readTold, presentIn, bodySize, recordAt, superfram
 use Rattle.s2xv2.specs.Table144c.{modeOf}
 use Rattle.s2xv2.specs.ListA.{inconsistency}
 use Rattle.s2xv2.specs.ListB.{unwritable}
+use Rattle.s2xv2.specs.Write.{writeTold}
 use Rattle.s2xv2.proofs.Cases.{Row, _gives_, right, table}
 use Rattle.form.specs.Envelope.{stuffing}
 use Rattle.form.specs.Form.{goodSize, goodFirst, goodRest, goodForm}
@@ -37,7 +38,7 @@ slotTable =
 
 -- Every row of the whole table, bodies and slots, is right.
 pub cases : right (table ++ slotTable) ≡ true
-unfolding beginTold fitTold stageTold beginOf stepOf fair fitsIn goodForm goodSize goodFirst goodRest stuffing defaultRecord encode encodedLength partsOf byteParts scramblingParts bondParts superframeParts inconsistency unwritable readTold presentIn bodySize recordAt superframeAt modeOf
+unfolding beginTold fitTold stageTold beginOf stepOf fair fitsIn goodForm goodSize goodFirst goodRest stuffing defaultRecord encode encodedLength partsOf byteParts scramblingParts bondParts superframeParts inconsistency unwritable readTold presentIn bodySize recordAt superframeAt modeOf writeTold
 cases = refl
 
 -- The two rows hold of every slot in good form and every record with a body of 18 bytes that lists A and B pass.

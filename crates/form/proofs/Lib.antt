@@ -2,4 +2,4 @@ pub mod Tests
 pub mod Stuffing
 pub mod GoodForm
 pub mod Laws
-pub mod Same
+pub mod Equal

@@ -2,4 +2,4 @@ pub mod Lists
 pub mod Fairness
 pub mod Places
 pub mod Advancing
-pub mod Same
+pub mod Equal

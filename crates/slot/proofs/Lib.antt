@@ -1,4 +1,4 @@
 pub mod Emptying
 pub mod Laws
 pub mod Reading
-pub mod Same
+pub mod Equal

@@ -7,9 +7,9 @@ use Prim.Native.Nat.{ℕ}
 use Rattle.form.specs.Form.{goodSize, goodForm}
 
 -- `good::is_size`
-pub is-size-same : (n : ℕ) (a b : Bool) → a ≡ goodSize n → b ≡ goodSize n → a ≡ b
-is-size-same n a b p q = p ∙ sym q
+pub is-size-equal : (n : ℕ) (a b : Bool) → a ≡ goodSize n → b ≡ goodSize n → a ≡ b
+is-size-equal n a b p q = p ∙ sym q
 
 -- `good::in_form`
-pub in-form-same : (s : List ℕ) (a b : Bool) → a ≡ goodForm s → b ≡ goodForm s → a ≡ b
-in-form-same s a b p q = p ∙ sym q
+pub in-form-equal : (s : List ℕ) (a b : Bool) → a ≡ goodForm s → b ≡ goodForm s → a ≡ b
+in-form-equal s a b p q = p ∙ sym q

@@ -48,16 +48,16 @@ same-seen a b e =
     ∙ ap {B = SlotRead} (λ (y : S2Xv2SatelliteDeliverySystem). record { answer = b .answer; body = y }) q
 
 -- `read::read`
-pub read-same : (s : List ℕ) (a b : SlotRead) → slotSeen a ≡ shown s .reading → slotSeen b ≡ shown s .reading → a ≡ b
-read-same s a b p q = same-seen a b (p ∙ sym q)
+pub read-equal : (s : List ℕ) (a b : SlotRead) → slotSeen a ≡ shown s .reading → slotSeen b ≡ shown s .reading → a ≡ b
+read-equal s a b p q = same-seen a b (p ∙ sym q)
 
 -- `read::reserved_tail`: the bytes of the part
-pub reserved-tail-same : (s a b : List ℕ) → a ≡ shown s .tail → b ≡ shown s .tail → a ≡ b
-reserved-tail-same s a b p q = p ∙ sym q
+pub reserved-tail-equal : (s a b : List ℕ) → a ≡ shown s .tail → b ≡ shown s .tail → a ≡ b
+reserved-tail-equal s a b p q = p ∙ sym q
 
 -- `empty::make_empty`: the answer, and the slot
-pub make-empty-same : (s : List ℕ) (a b : SlotAnswer) → slotTold a ≡ emptyTold (length s) → slotTold b ≡ emptyTold (length s) → a ≡ b
-make-empty-same s a b p q = same-slot-told a b (p ∙ sym q)
+pub make-empty-equal : (s : List ℕ) (a b : SlotAnswer) → slotTold a ≡ emptyTold (length s) → slotTold b ≡ emptyTold (length s) → a ≡ b
+make-empty-equal s a b p q = same-slot-told a b (p ∙ sym q)
 
-pub make-empty-same-slot : (s x y : List ℕ) → x ≡ emptied s → y ≡ emptied s → x ≡ y
-make-empty-same-slot s x y p q = p ∙ sym q
+pub make-empty-slot-equal : (s x y : List ℕ) → x ≡ emptied s → y ≡ emptied s → x ≡ y
+make-empty-slot-equal s x y p q = p ∙ sym q

@@ -38,12 +38,12 @@ same-moved j a b e =
     ∙ ap {B = Moved} (λ (x : Steps). record { answer = b .answer; stores = x .made; done = x .done; made = x .job .«stores_made» }) e
 
 -- `job::Job::step`: the answer with its job, and the slot
-pub step-same : (j : Job) (s : List ℕ) (n : ℕ) (a b : Stepped) → stepSeen a ≡ stepOf j (length s) n → stepSeen b ≡ stepOf j (length s) n → a ≡ b
-step-same j s n a b p q = same-stepped a b (p ∙ sym q)
+pub step-equal : (j : Job) (s : List ℕ) (n : ℕ) (a b : Stepped) → stepSeen a ≡ stepOf j (length s) n → stepSeen b ≡ stepOf j (length s) n → a ≡ b
+step-equal j s n a b p q = same-stepped a b (p ∙ sym q)
 
-pub step-same-slot : (j : Job) (s : List ℕ) (n : ℕ) (x y : List ℕ) → x ≡ slotAfter j s n → y ≡ slotAfter j s n → x ≡ y
-step-same-slot j s n x y p q = p ∙ sym q
+pub step-slot-equal : (j : Job) (s : List ℕ) (n : ℕ) (x y : List ℕ) → x ≡ slotAfter j s n → y ≡ slotAfter j s n → x ≡ y
+step-slot-equal j s n x y p q = p ∙ sym q
 
 -- `advance::advance`: the answer; its slot is as of a step
-pub advance-same : (j : Job) (s : List ℕ) (n : ℕ) (a b : Moved) → movedSeen j a ≡ stepOf j (length s) n → movedSeen j b ≡ stepOf j (length s) n → a ≡ b
-advance-same j s n a b p q = same-moved j a b (p ∙ sym q)
+pub advance-equal : (j : Job) (s : List ℕ) (n : ℕ) (a b : Moved) → movedSeen j a ≡ stepOf j (length s) n → movedSeen j b ≡ stepOf j (length s) n → a ≡ b
+advance-equal j s n a b p q = same-moved j a b (p ∙ sym q)

@@ -7,7 +7,7 @@ use lib.ListN.{length}
 use Rattle.job.specs.declared.job.Job.{Job}
 use Rattle.job.specs.declared.job.StepAnswer.{StepAnswer}
 use Rattle.job.specs.Step.{stepOf, slotAfter}
-use Rattle.job.proofs.Same.{same-step-told}
+use Rattle.job.proofs.Equal.{same-step-told}
 use Rattle.in_place.specs.declared.Advanced.{Advanced}
 use Rattle.in_place.specs.Advanced.{Tells, tells, advancedSeen}
 
@@ -18,11 +18,11 @@ same-advanced a b e =
 
 -- `step_in_place`, and `step_on_site` of `onsite`, which has the same contract: the answer, the job, and the slot
 module _ (j : Job) (s : List ℕ) (n : ℕ) where
-  pub in-place-same : (a b : Advanced) → advancedSeen a ≡ tells (stepOf j (length s) n) → advancedSeen b ≡ tells (stepOf j (length s) n) → a ≡ b
-  in-place-same a b p q = same-advanced a b (p ∙ sym q)
+  pub in-place-equal : (a b : Advanced) → advancedSeen a ≡ tells (stepOf j (length s) n) → advancedSeen b ≡ tells (stepOf j (length s) n) → a ≡ b
+  in-place-equal a b p q = same-advanced a b (p ∙ sym q)
 
-  pub in-place-same-job : (x y : Job) → x ≡ stepOf j (length s) n .job → y ≡ stepOf j (length s) n .job → x ≡ y
-  in-place-same-job x y p q = p ∙ sym q
+  pub in-place-job-equal : (x y : Job) → x ≡ stepOf j (length s) n .job → y ≡ stepOf j (length s) n .job → x ≡ y
+  in-place-job-equal x y p q = p ∙ sym q
 
-  pub in-place-same-slot : (x y : List ℕ) → x ≡ slotAfter j s n → y ≡ slotAfter j s n → x ≡ y
-  in-place-same-slot x y p q = p ∙ sym q
+  pub in-place-slot-equal : (x y : List ℕ) → x ≡ slotAfter j s n → y ≡ slotAfter j s n → x ≡ y
+  in-place-slot-equal x y p q = p ∙ sym q
