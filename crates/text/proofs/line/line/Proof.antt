@@ -1,0 +1,31 @@
+-- `text::line::line` meets its contract: one text after the other.
+-- Assumes nothing.
+use borrow.Author.Needs.{needs}
+use Rattle.text.specs.Line.{lineOf}
+use Rattle.text.proofs.Laws.{write-joined}
+use Rattle.text.proofs.line.line.Statement.{statement}
+use Rattle.text.proofs.line.line.Tie as tie
+
+copy-requires : tie.Need-copy-requires
+copy-requires c κs = search needs
+
+put-requires : tie.Need-put-requires
+put-requires c κs = search needs
+
+decimal-requires : tie.Need-decimal-requires
+decimal-requires c κs = search needs
+
+put-requires-2 : tie.Need-put-requires-2
+put-requires-2 c κs = search needs
+
+same-length : tie.Need-same-length
+same-length c = search needs
+
+returns : tie.Need-returns
+unfolding lineOf
+returns c = rw write-joined (cc)
+
+pub line-spec : {M : Type 1} → statement M
+line-spec =
+    tie.close
+    (tie.spec copy-requires put-requires decimal-requires put-requires-2 same-length returns)

@@ -1,0 +1,38 @@
+// A number in decimal digits.
+ghost use mathlib.Core.Path.{_≡_};
+ghost use Prim.Native.Nat.{_<_};
+ghost use Rattle.text.specs.Out.{_from_, write};
+ghost use Rattle.text.specs.Number.{digitOf, threeOf, decimalOf};
+use crate::put::put;
+
+// The digit of a power of ten, where the number reaches it.
+fn digit(out: &mut [u8], at: usize, n: u64, power: u64) -> usize
+    requires { ⌜ 0 < power ⌝ }
+    ensures { λ r. ⌜ now (out .exit) from r ≡ write (now (out .entry) from at) (digitOf n power) ⌝ }
+{
+    if power <= n {
+        put(out, at, (48 + n / power % 10) as u8)
+    } else {
+        at
+    }
+}
+
+// The digits of three powers.
+fn three(out: &mut [u8], at: usize, n: u64, a: u64, b: u64, c: u64) -> usize
+    requires { ⌜ (0 < a) × (0 < b) × (0 < c) ⌝ }
+    ensures { λ r. ⌜ now (out .exit) from r ≡ write (now (out .entry) from at) (threeOf n a b c) ⌝ }
+{
+    let at = digit(out, at, n, a);
+    let at = digit(out, at, n, b);
+    digit(out, at, n, c)
+}
+
+// All digits, of which there are ten at most.
+pub fn decimal(out: &mut [u8], at: usize, n: u64) -> usize
+    ensures { λ r. ⌜ now (out .exit) from r ≡ write (now (out .entry) from at) (decimalOf n) ⌝ }
+{
+    let at = three(out, at, n, 1_000_000_000, 100_000_000, 10_000_000);
+    let at = three(out, at, n, 1_000_000, 100_000, 10_000);
+    let at = three(out, at, n, 1_000, 100, 10);
+    put(out, at, (48 + n % 10) as u8)
+}
