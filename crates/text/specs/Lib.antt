@@ -1,3 +1,5 @@
 pub mod Out
 pub mod Number
 pub mod Line
+pub mod Fields
+pub mod Dump

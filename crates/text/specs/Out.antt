@@ -1,6 +1,8 @@
 -- Text that goes into a lent buffer from a place on, as far as the buffer reaches: `Out` is a buffer and the place, `write` puts text
--- there, `putOne` one byte of it. `joined` is one text after the other, `writes` puts them so. Assumes nothing.
+-- there, `putOne` one byte of it, and `Wrote` says so of a buffer and place before and after. `joined` is one text after the other.
+-- Assumes nothing.
 use Prim.Native.Nat.{ℕ, _+_}
+use mathlib.Core.Path.{_≡_}
 use mathlib.Core.List.{List, [], _∷_, _++_}
 use lib.ListN.{length, set}
 use lib.Dec.{ltb}
@@ -22,9 +24,8 @@ unfoldable pub write : Out → List ℕ → Out
 write o [] = o
 write o (b ∷ bs) = write (putOne o b) bs
 
-abbrev pub writes : Out → List (List ℕ) → Out
-writes o [] = o
-writes o (t ∷ ts) = writes (write o t) ts
+pub record Wrote (before : Out) (text : List ℕ) (after : Out) : Type 0 where
+  pub is : after ≡ write before text
 
 unfoldable pub joined : List (List ℕ) → List ℕ
 joined [] = []

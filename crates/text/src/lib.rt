@@ -1,4 +1,7 @@
 // The dump of a body, as text.
-pub mod line;
-pub mod number;
-pub mod put;
+mod core;
+mod line;
+mod number;
+mod parts;
+mod put;
+mod superframe;

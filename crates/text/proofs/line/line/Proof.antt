@@ -2,7 +2,7 @@
 -- Assumes nothing.
 use borrow.Author.Needs.{needs}
 use Rattle.text.specs.Line.{lineOf}
-use Rattle.text.proofs.Laws.{write-joined}
+use Rattle.text.proofs.Laws.{then4}
 use Rattle.text.proofs.line.line.Statement.{statement}
 use Rattle.text.proofs.line.line.Tie as tie
 
@@ -23,7 +23,7 @@ same-length c = search needs
 
 returns : tie.Need-returns
 unfolding lineOf
-returns c = rw write-joined (cc)
+returns c = then4 (c .before .before .before .before .before .before .before .before .before .before .before .before .before .before .copy .ensures) (c .before .before .before .before .before .before .before .before .before .before .put .ensures) (c .before .before .before .before .before .before .decimal .ensures) (c .before .before .put2 .ensures)
 
 pub line-spec : {M : Type 1} → statement M
 line-spec =

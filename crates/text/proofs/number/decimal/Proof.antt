@@ -2,7 +2,7 @@
 -- Assumes nothing.
 use borrow.Author.Needs.{needs}
 use Rattle.text.specs.Number.{decimalOf}
-use Rattle.text.proofs.Laws.{write-joined}
+use Rattle.text.proofs.Laws.{then4}
 use Rattle.text.proofs.number.decimal.Statement.{statement}
 use Rattle.text.proofs.number.decimal.Tie as tie
 
@@ -29,7 +29,7 @@ same-length c = search needs
 
 returns : tie.Need-returns
 unfolding decimalOf
-returns c = rw write-joined (cc)
+returns c = then4 (c .before .before .before .before .before .before .before .before .before .before .before .before .before .before .three .ensures) (c .before .before .before .before .before .before .before .before .before .before .three2 .ensures) (c .before .before .before .before .before .before .three3 .ensures) (c .before .before .put .ensures)
 
 pub decimal-spec : {M : Type 1} → statement M
 decimal-spec =

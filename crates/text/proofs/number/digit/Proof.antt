@@ -2,9 +2,8 @@
 -- Assumes nothing.
 use borrow.Author.Needs.{needs}
 use borrow.Author.Tests.{le-leb, lt-leb}
-use mathlib.Core.Path.{_∙_}
-use Rattle.text.specs.Out.{write}
 use Rattle.text.specs.Number.{digitOf}
+use Rattle.text.proofs.Laws.{nothing}
 use Rattle.text.proofs.number.digit.Statement.{statement}
 use Rattle.text.proofs.number.digit.Tie as tie
 use Rattle.text.proofs.number.digit.Reads as reads
@@ -28,11 +27,11 @@ same-length c = search needs
 
 returns : tie.Need-returns
 unfolding digitOf
-returns c = c .before .before .put .ensures ∙ rw (le-leb _ _ (c .before .before .before .before .if1 .taken))
+returns c = rw (le-leb _ _ (c .before .before .before .before .if1 .taken)) (c .before .before .put .ensures)
 
 returns-2 : tie.Need-returns-2
-unfolding digitOf write
-returns-2 c = rw (lt-leb _ _ (c .if1 .left))
+unfolding digitOf
+returns-2 c = rw (lt-leb _ _ (c .if1 .left)) nothing
 
 pub digit-spec : {M : Type 1} → statement M
 digit-spec =

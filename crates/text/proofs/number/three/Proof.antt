@@ -2,7 +2,7 @@
 -- Assumes nothing.
 use borrow.Author.Needs.{needs}
 use Rattle.text.specs.Number.{threeOf}
-use Rattle.text.proofs.Laws.{write-joined}
+use Rattle.text.proofs.Laws.{then3}
 use Rattle.text.proofs.number.three.Statement.{statement}
 use Rattle.text.proofs.number.three.Tie as tie
 
@@ -20,7 +20,7 @@ same-length c = search needs
 
 returns : tie.Need-returns
 unfolding threeOf
-returns c = rw write-joined (cc)
+returns c = then3 (c .before .before .before .before .before .before .before .before .before .before .digit .ensures) (c .before .before .before .before .before .before .digit2 .ensures) (c .before .before .digit3 .ensures)
 
 pub three-spec : {M : Type 1} → statement M
 three-spec =

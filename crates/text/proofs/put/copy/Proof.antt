@@ -41,7 +41,7 @@ loop-again c =
     let l = c .before .before .before .before .before .before .loop in
     let text = c .before .before .before .before .before .before .before .before .before .args .text .now in
     let h : l .i < length text = search needs in
-    (search needs, search needs, rw (add-one, take-suc text (l .i) 0, write-append) (cc))
+    (search needs, search needs, rw (add-one, take-suc text (l .i) 0, write-append) (cc (c .before .before .put .ensures .is)))
 
 same-length : tie.Need-same-length Inv-loop μ-loop
 same-length c = search needs
@@ -51,7 +51,7 @@ returns c =
     let l = c .before .loop in
     let text = c .before .before .before .before .args .text .now in
     let h : length text ≤ l .i = search needs in
-    l .inv .2 ∙ rw take-all
+    record { is = l .inv .2 ∙ rw take-all }
 
 pub copy-spec : {M : Type 1} → statement M
 copy-spec =

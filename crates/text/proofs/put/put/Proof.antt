@@ -17,11 +17,11 @@ same-length c = search needs
 
 returns : tie.Need-returns
 unfolding write putOne
-returns c = simp (lt-ltb _ _ (c .if1 .taken))
+returns c = record { is = simp (lt-ltb _ _ (c .if1 .taken)) }
 
 returns-2 : tie.Need-returns-2
 unfolding write putOne
-returns-2 c = simp (le-ltb _ _ (c .if1 .left))
+returns-2 c = record { is = simp (le-ltb _ _ (c .if1 .left)) }
 
 pub put-spec : {M : Type 1} → statement M
 put-spec = tie.close (tie.spec slice-write-out add-result same-length returns returns-2)
