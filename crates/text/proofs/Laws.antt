@@ -1,7 +1,7 @@
 -- Laws of `write`: text after text is one text (`write-append`), so that calls one after the other write what is joined (`then2`,
 -- `then3`, `then4`); nothing is written by a call that is not made (`nothing`). Assumes nothing.
 use Prim.Native.Nat.{ℕ}
-use mathlib.Core.Path.{_≡_, refl, sym, _∙_, ap}
+use mathlib.Core.Path.{_≡_, refl, sym, _∙_, ap, subst}
 use mathlib.Core.List.{List, [], _∷_, _++_}
 use Rattle.text.specs.Out.{Out, write, joined, Wrote}
 
@@ -14,8 +14,12 @@ pub nothing : {o : Out} → Wrote o [] o
 unfolding write
 nothing = record { is = refl }
 
+-- a text that equals another
+pub same-text : {o p : Out} {a b : List ℕ} → a ≡ b → Wrote o a p → Wrote o b p
+same-text {o} {p} e w = subst (λ (t : List ℕ). Wrote o t p) e w
+
 -- the last text, and one more before it
-last : {o p : Out} {a : List ℕ} → Wrote o a p → Wrote o (joined (a ∷ [])) p
+pub last : {o p : Out} {a : List ℕ} → Wrote o a p → Wrote o (joined (a ∷ [])) p
 unfolding joined write
 last {o} {p} {a} e = record { is = e .is ∙ sym (write-append a [] o) }
 

@@ -52,6 +52,13 @@ pub(crate) fn word(out: &mut [u8], at: usize, n: u64) -> usize
     decimal(out, at, n)
 }
 
+// One number, as the only one.
+pub(crate) fn words1(out: &mut [u8], at: usize, a: u64) -> usize
+    ensures { λ r. ⌜ Wrote (now (out .entry) from at) (wordsOf (a ∷ [])) (now (out .exit) from r) ⌝ }
+{
+    word(out, at, a)
+}
+
 // Two numbers.
 pub(crate) fn words2(out: &mut [u8], at: usize, a: u64, b: u64) -> usize
     ensures { λ r. ⌜ Wrote (now (out .entry) from at) (wordsOf (a ∷ b ∷ [])) (now (out .exit) from r) ⌝ }
