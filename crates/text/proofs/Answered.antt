@@ -13,7 +13,7 @@ use Rattle.s2xv2.specs.declared.answer.Refusal.the-variants as R
 use Rattle.s2xv2.specs.declared.answer.Answer.the-variants as A
 use Rattle.reader.specs.Seen.{seen}
 use Rattle.reader.specs.declared.Parsed.{Parsed}
-use Rattle.text.specs.Line.{refusedOf}
+use Rattle.lines.specs.Line.{refusedOf}
 use Rattle.text.specs.Dump.{bodyOf, dumpOf}
 
 -- no refusal has the number of what is accepted

@@ -1,17 +1,10 @@
--- How long a text can get: `dump-most`, at most 1,067 bytes for any body, so that a buffer of 2,048 holds it; and what a buffer then
--- holds (`fits`). `Most` says it of a text; the rest are its parts. Assumes nothing.
-use Prim.Native.Nat.{ℕ, _+_, _*_, _/_, _%_, _≤_, _<_}
-use mathlib.Core.Path.{_≡_, refl, sym, _∙_, ap, subst}
-use mathlib.Core.Bool.{Bool, true, false}
-use mathlib.Core.List.{List, [], _∷_, _++_}
+-- How long the text of a body can get: `dump-most`, at most 1,067 bytes, so that a buffer of 2,048 holds it. The rest are its parts.
+-- Assumes nothing.
+use Prim.Native.Nat.{ℕ, _+_, _*_, _≤_}
+use mathlib.Core.List.{List, [], _∷_}
 use native.Mathlib.Omega.{arith}
-use native.Mathlib.Nat.{add-zero, zero-add, add-suc, suc-add}
-use native.Mathlib.Numerals.{add-one}
-use borrow.Author.Tests.{lt-ltb}
-use lib.ListN.{length, drop, set, length-append, length-set}
-use lib.Seq.{sets, sets-eq}
-use lib.Dec.{eqb, leb, ltb}
-use Rattle.wire.specs.Flags.{when}
+use lib.ListN.{length}
+use lib.Dec.{eqb, ltb}
 use Rattle.s2xv2.specs.Read.{Need, needs, presentIn, endsOf, bodySize, shortTold, readTold, numberOf, readOf, tailOf}
 use Rattle.s2xv2.specs.declared.record.S2Xv2SatelliteDeliverySystem.{S2Xv2SatelliteDeliverySystem}
 use Rattle.s2xv2.specs.declared.superframe.S2Xv2Superframe.{S2Xv2Superframe}
@@ -23,70 +16,10 @@ use Rattle.s2xv2.specs.declared.option.OptionU8.{OptionU8}
 use Rattle.s2xv2.specs.declared.option.OptionU8.the-variants as O8
 use Rattle.s2xv2.specs.declared.option.OptionU32.{OptionU32}
 use Rattle.s2xv2.specs.declared.option.OptionU32.the-variants as O32
-use Rattle.text.specs.Out.{Out, _from_, putOne, write, Wrote, joined}
-use Rattle.text.specs.Number.{digitOf, threeOf, decimalOf}
-use Rattle.text.specs.Line.{codes, space, newline, lineOf, words, wordOf, wordsOf, refusedOf}
+use Rattle.lines.specs.Line.{codes, refusedOf}
+use Rattle.lines.proofs.Length.{Most, two, three, four, line-most, either, name-most, one-byte, upto, empty, words-most}
 use Rattle.text.specs.Fields as F
 use Rattle.text.specs.Dump.{bodyOf, dumpOf}
-
-pub record Most (text : List ℕ) (n : ℕ) : Type 0 where
-  pub le : length text ≤ n
-
--- ---- what is joined
-
-more : {n : ℕ} {a : List ℕ} (ts : List (List ℕ)) {m : ℕ} → Most a n → Most (joined ts) m → Most (joined (a ∷ ts)) (n + m)
-unfolding joined
-more {n} {a} ts {m} x y = record { le = omega (arith, length-append a (joined ts), x .le, y .le) }
-
-none : Most (joined []) 0
-unfolding joined
-none = record { le = omega arith }
-
-one : {a : List ℕ} {i : ℕ} → Most a i → Most (joined (a ∷ [])) (i + 0)
-one x = more [] x none
-
-two : {a b : List ℕ} {i j : ℕ} → Most a i → Most b j → Most (joined (a ∷ b ∷ [])) (i + (j + 0))
-two {a} {b} x y = more (b ∷ []) x (one y)
-
-three : {a b c : List ℕ} {i j k : ℕ} → Most a i → Most b j → Most c k → Most (joined (a ∷ b ∷ c ∷ [])) (i + (j + (k + 0)))
-three {a} {b} {c} x y z = more (b ∷ c ∷ []) x (two y z)
-
-four : {a b c d : List ℕ} {i j k l : ℕ} → Most a i → Most b j → Most c k → Most d l
-    → Most (joined (a ∷ b ∷ c ∷ d ∷ [])) (i + (j + (k + (l + 0))))
-four {a} {b} {c} {d} x y z w = more (b ∷ c ∷ d ∷ []) x (three y z w)
-
--- ---- numbers and lines
-
-when-most : (b : Bool) (x : ℕ) → Most (when b (x ∷ []) []) 1
-when-most true x = record { le = omega arith }
-when-most false x = record { le = omega arith }
-
-digit-most : (n power : ℕ) → Most (digitOf n power) 1
-unfolding digitOf
-digit-most n power = when-most (leb power n) (48 + n / power % 10)
-
-three-most : (n a b c : ℕ) → Most (threeOf n a b c) 3
-unfolding threeOf
-three-most n a b c = three (digit-most n a) (digit-most n b) (digit-most n c)
-
-one-byte : (x : ℕ) → Most (x ∷ []) 1
-one-byte x = record { le = omega arith }
-
-decimal-most : (n : ℕ) → Most (decimalOf n) 10
-unfolding decimalOf
-decimal-most n = four (three-most n _ _ _) (three-most n _ _ _) (three-most n _ _ _) (one-byte (48 + n % 10))
-
-name-most : (name : List ℕ) → Most name (length name)
-name-most name = record { le = omega arith }
-
-line-most : (name : List ℕ) (v : ℕ) → Most (lineOf name v) (length name + 12)
-unfolding lineOf
-line-most name v = four (name-most name) (one-byte 32) (decimal-most v) (one-byte 10)
-
--- one text or another
-either : (b : Bool) {n : ℕ} {a c : List ℕ} → Most a n → Most c n → Most (when b a c) n
-either true x y = x
-either false x y = y
 
 -- ---- the core
 
@@ -97,9 +30,6 @@ start-most n r = four (line-most _ _) (line-most _ _) (line-most _ _) (line-most
 flags-most : (r : S2Xv2SatelliteDeliverySystem) → Most (F.flagsOf r) 106
 unfolding F.flagsOf
 flags-most r = four (line-most _ _) (line-most _ _) (line-most _ _) (line-most _ _)
-
-upto : {a : List ℕ} {m : ℕ} (n : ℕ) → m ≤ n → Most a m → Most a n
-upto {a} {m} n h x = record { le = omega (arith, x .le) }
 
 top-most : (o : OptionBool) (v : ℕ) → Most (F.topOf o v) 40
 unfolding F.topOf
@@ -119,9 +49,6 @@ unfolding F.coreOf
 core-most n r = four (start-most n r) (flags-most r) (bond-most r) (carrier-most r)
 
 -- ---- the parts that may be there
-
-empty : (n : ℕ) → Most [] n
-empty n = record { le = omega arith }
 
 line8-most : (name : List ℕ) (o : OptionU8) → Most (F.line8 name o) (length name + 12)
 unfolding F.line8
@@ -184,11 +111,6 @@ body-most : (n : ℕ) (r : S2Xv2SatelliteDeliverySystem) (t : ℕ) → Most (bod
 unfolding bodyOf
 body-most n r t = four (core-most n r) (parts-most r) (superframe-most _) (line-most _ _)
 
-words-most : (ns : List ℕ) → Most (wordsOf ns) (length ns * 11)
-unfolding wordsOf wordOf
-words-most [] = none
-words-most (n ∷ ns) = upto (length (n ∷ ns) * 11) (omega arith) (more (words ns) (two (one-byte 32) (decimal-most n)) (words-most ns))
-
 short-most : (have : ℕ) (ns : List Need) (o : List ℕ) → Most o 4 → Most (shortTold have ns o) 4
 short-most have [] o x = x
 short-most have (n ∷ ns) o x = either (ltb have (n .need)) (record { le = omega arith }) (short-most have ns o x)
@@ -208,19 +130,3 @@ unfolding dumpOf
 dump-most s =
     either (eqb (numberOf (readTold s)) 0) (body-most (length s) (readOf s .body) (length (tailOf s))) (upto 1067 (omega arith) (refused-most (told-most s)))
     .le
-
--- ---- a text that fits
-
-write-sets : (t l : List ℕ) (p : ℕ) → p + length t ≤ length l → write (l from p) t ≡ sets l p t from (p + length t)
-unfolding write putOne
-write-sets [] l p h = rw add-zero
-write-sets (b ∷ bs) l p h =
-    let i : p < length l = omega arith in
-    rw (lt-ltb p (length l) i)
-    (write-sets bs (set l p b) (p + 1) (omega (arith, length-set l p b)) ∙ rw (add-one p, add-suc p (length bs), suc-add p (length bs)))
-
--- a text that the buffer holds stands at its start, and what follows is as it was
-pub fits : {l t : List ℕ} {o : Out} → length t ≤ length l → Wrote (l from 0) t o → o ≡ (t ++ drop (length t) l) from length t
-fits {l} {t} {o} h w =
-    let k : 0 + length t ≤ length l = omega arith in
-    w .is ∙ write-sets t l 0 k ∙ rw (sets-eq t l 0 k, zero-add)

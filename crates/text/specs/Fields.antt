@@ -16,8 +16,8 @@ use Rattle.s2xv2.specs.declared.option.OptionU8.{OptionU8}
 use Rattle.s2xv2.specs.declared.option.OptionU8.the-variants as O8
 use Rattle.s2xv2.specs.declared.option.OptionU32.{OptionU32}
 use Rattle.s2xv2.specs.declared.option.OptionU32.the-variants as O32
-use Rattle.text.specs.Out.{joined}
-use Rattle.text.specs.Line.{codes, lineOf}
+use Rattle.lines.specs.Out.{joined}
+use Rattle.lines.specs.Line.{codes, lineOf}
 
 -- ---- the core, after the line of the body's length
 

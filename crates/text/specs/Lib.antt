@@ -1,5 +1,2 @@
-pub mod Out
-pub mod Number
-pub mod Line
 pub mod Fields
 pub mod Dump

@@ -1,19 +1,19 @@
 // The dump of a body.
 ghost use mathlib.Core.Path.{_≡_};
 ghost use Rattle.s2xv2.specs.Answer.{numbers as Answer·numbers};
-ghost use Rattle.text.specs.Out.{_from_, Wrote};
-ghost use Rattle.text.specs.Line.{wordsOf, refusedOf};
+ghost use Rattle.lines.specs.Out.{_from_, Wrote};
+ghost use Rattle.lines.specs.Line.{wordsOf, refusedOf};
 ghost use Rattle.text.specs.Dump.{bodyOf, dumpOf};
 use crate::core::core;
-use crate::line::line;
-use crate::line::words1;
-use crate::line::words2;
-use crate::line::words3;
-use crate::line::words4;
 use crate::parts::parts;
-use crate::put::copy;
-use crate::put::put;
 use crate::superframe::superframe;
+use lines::line::line;
+use lines::line::words1;
+use lines::line::words2;
+use lines::line::words3;
+use lines::line::words4;
+use lines::put::copy;
+use lines::put::put;
 use s2xv2::answer::Answer;
 use s2xv2::answer::Refusal;
 use s2xv2::record::S2Xv2SatelliteDeliverySystem;

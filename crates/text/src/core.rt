@@ -1,13 +1,13 @@
 // The lines of the body's length and of the core's fields.
 ghost use mathlib.Core.Path.{_≡_};
-ghost use Rattle.text.specs.Out.{_from_, Wrote};
+ghost use Rattle.lines.specs.Out.{_from_, Wrote};
 ghost use Rattle.s2xv2.specs.Table144c.{codeOf};
-ghost use Rattle.text.specs.Line.{codes, lineOf};
+ghost use Rattle.lines.specs.Line.{codes, lineOf};
 ghost use Rattle.text.specs.Fields.{startOf, flagsOf, topOf, bondOf, carrierOf, coreOf};
-use crate::line::flag;
-use crate::line::line;
-use crate::line::line8;
-use crate::line::line32;
+use lines::line::flag;
+use lines::line::line;
+use lines::line::line8;
+use lines::line::line32;
 use s2xv2::mode::S2Xv2Mode;
 use s2xv2::option::OptionBool;
 use s2xv2::record::S2Xv2SatelliteDeliverySystem;

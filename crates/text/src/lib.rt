@@ -8,10 +8,7 @@ use s2xv2::answer::Refusal;
 
 mod body;
 mod core;
-mod line;
-mod number;
 mod parts;
-mod put;
 mod superframe;
 
 // Puts the text of the body `sel` at the start of `out` and answers its length. Refuses a buffer of less than 2,048 bytes, which hold any

@@ -1,9 +1,9 @@
 // The lines of the parts that may be there between the core and the superframe block.
 ghost use mathlib.Core.Path.{_≡_};
-ghost use Rattle.text.specs.Out.{_from_, Wrote};
+ghost use Rattle.lines.specs.Out.{_from_, Wrote};
 ghost use Rattle.text.specs.Fields.{line8 as Fields·line8, scramblingOf, idOf, secondOf, bondsOf, partsOf};
-use crate::line::line8;
-use crate::line::line32;
+use lines::line::line8;
+use lines::line::line32;
 use s2xv2::option::OptionU8;
 use s2xv2::option::OptionU32;
 use s2xv2::record::S2Xv2SatelliteDeliverySystem;

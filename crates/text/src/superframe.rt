@@ -1,10 +1,10 @@
 // The lines of the superframe block.
 ghost use mathlib.Core.Path.{_≡_};
-ghost use Rattle.text.specs.Out.{_from_, Wrote};
+ghost use Rattle.lines.specs.Out.{_from_, Wrote};
 ghost use Rattle.text.specs.Fields.{blockStartOf, nibbleOf, line32 as Fields·line32, blockMiddleOf, blockEndOf, blockOf, superframeOf};
-use crate::line::flag;
-use crate::line::line8;
-use crate::line::line32;
+use lines::line::flag;
+use lines::line::line8;
+use lines::line::line32;
 use s2xv2::option::OptionU8;
 use s2xv2::option::OptionU32;
 use s2xv2::superframe::OptionSuperframe;

@@ -8,9 +8,10 @@ use borrow.Author.Needs.{needs}
 use borrow.Author.Tests.{lt-ltb, le-ltb}
 use denote.Ref.{now}
 use lib.ListN.{length}
-use Rattle.text.specs.Out.{Out}
+use Rattle.lines.specs.Out.{Out}
 use Rattle.text.specs.Dump.{dumpOf, dumpTold, dumpedInto}
-use Rattle.text.proofs.Most.{dump-most, fits}
+use Rattle.lines.proofs.Length.{fits}
+use Rattle.text.proofs.Most.{dump-most}
 use Rattle.text.proofs.dump.Statement.{statement}
 use Rattle.text.proofs.dump.Tie as tie
 

@@ -1,8 +1,8 @@
 -- `text::body::refused` meets its contract: one text after the other.
 -- Assumes nothing.
 use borrow.Author.Needs.{needs}
-use Rattle.text.specs.Line.{refusedOf}
-use Rattle.text.proofs.Laws.{then3}
+use Rattle.lines.specs.Line.{refusedOf}
+use Rattle.lines.proofs.Laws.{then3}
 use Rattle.text.proofs.body.refused.Statement.{statement}
 use Rattle.text.proofs.body.refused.Tie as tie
 

@@ -7,7 +7,7 @@ use Prim.Native.Nat.{ℕ}
 use lib.ListN.{length}
 use denote.Ref.{now}
 use Rattle.text.specs.Dump.{bodyOf}
-use Rattle.text.proofs.Laws.{same-text}
+use Rattle.lines.proofs.Laws.{same-text}
 use Rattle.text.proofs.Answered.{accepted-text, refused-text}
 use Rattle.text.proofs.body.text_of.Statement.{statement}
 use Rattle.text.proofs.body.text_of.Tie as tie

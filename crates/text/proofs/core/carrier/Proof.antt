@@ -2,7 +2,7 @@
 -- Assumes nothing.
 use borrow.Author.Needs.{needs}
 use Rattle.text.specs.Fields.{carrierOf}
-use Rattle.text.proofs.Laws.{then4}
+use Rattle.lines.proofs.Laws.{then4}
 use Rattle.text.proofs.core.carrier.Statement.{statement}
 use Rattle.text.proofs.core.carrier.Tie as tie
 

@@ -2,7 +2,7 @@
 -- Assumes nothing.
 use borrow.Author.Needs.{needs}
 use Rattle.text.specs.Fields.{flagsOf}
-use Rattle.text.proofs.Laws.{then4}
+use Rattle.lines.proofs.Laws.{then4}
 use Rattle.text.proofs.core.flags.Statement.{statement}
 use Rattle.text.proofs.core.flags.Tie as tie
 

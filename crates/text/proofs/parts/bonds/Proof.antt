@@ -3,7 +3,7 @@
 use borrow.Author.Needs.{needs}
 use borrow.Author.Tests.{eq-eqb, ne-eqb}
 use Rattle.text.specs.Fields.{bondsOf}
-use Rattle.text.proofs.Laws.{nothing, then3}
+use Rattle.lines.proofs.Laws.{nothing, then3}
 use Rattle.text.proofs.parts.bonds.Statement.{statement}
 use Rattle.text.proofs.parts.bonds.Tie as tie
 

@@ -2,7 +2,7 @@
 -- Assumes nothing.
 use borrow.Author.Needs.{needs}
 use Rattle.text.specs.Fields.{line8}
-use Rattle.text.proofs.Laws.{nothing}
+use Rattle.lines.proofs.Laws.{nothing}
 use Rattle.text.proofs.parts.part.Statement.{statement}
 use Rattle.text.proofs.parts.part.Tie as tie
 

@@ -2,7 +2,7 @@
 -- Assumes nothing.
 use borrow.Author.Needs.{needs}
 use Rattle.text.specs.Fields.{scramblingOf}
-use Rattle.text.proofs.Laws.{nothing, then2}
+use Rattle.lines.proofs.Laws.{nothing, then2}
 use Rattle.text.proofs.parts.scrambling.Statement.{statement}
 use Rattle.text.proofs.parts.scrambling.Tie as tie
 

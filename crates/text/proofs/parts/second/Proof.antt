@@ -3,7 +3,7 @@
 use borrow.Author.Needs.{needs}
 use borrow.Author.Tests.{eq-eqb, ne-eqb}
 use Rattle.text.specs.Fields.{secondOf}
-use Rattle.text.proofs.Laws.{nothing}
+use Rattle.lines.proofs.Laws.{nothing}
 use Rattle.text.proofs.parts.second.Statement.{statement}
 use Rattle.text.proofs.parts.second.Tie as tie
 

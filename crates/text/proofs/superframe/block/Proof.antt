@@ -2,7 +2,7 @@
 -- Assumes nothing.
 use borrow.Author.Needs.{needs}
 use Rattle.text.specs.Fields.{blockOf}
-use Rattle.text.proofs.Laws.{then3}
+use Rattle.lines.proofs.Laws.{then3}
 use Rattle.text.proofs.superframe.block.Statement.{statement}
 use Rattle.text.proofs.superframe.block.Tie as tie
 

@@ -2,7 +2,7 @@
 -- Assumes nothing.
 use borrow.Author.Needs.{needs}
 use Rattle.text.specs.Fields.{blockEndOf}
-use Rattle.text.proofs.Laws.{then2}
+use Rattle.lines.proofs.Laws.{then2}
 use Rattle.text.proofs.superframe.block_end.Statement.{statement}
 use Rattle.text.proofs.superframe.block_end.Tie as tie
 

@@ -2,7 +2,7 @@
 -- Assumes nothing.
 use borrow.Author.Needs.{needs}
 use Rattle.text.specs.Fields.{blockMiddleOf}
-use Rattle.text.proofs.Laws.{then4}
+use Rattle.lines.proofs.Laws.{then4}
 use Rattle.text.proofs.superframe.block_middle.Statement.{statement}
 use Rattle.text.proofs.superframe.block_middle.Tie as tie
 

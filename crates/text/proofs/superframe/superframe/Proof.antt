@@ -2,7 +2,7 @@
 -- Assumes nothing.
 use borrow.Author.Needs.{needs}
 use Rattle.text.specs.Fields.{superframeOf}
-use Rattle.text.proofs.Laws.{nothing}
+use Rattle.lines.proofs.Laws.{nothing}
 use Rattle.text.proofs.superframe.superframe.Statement.{statement}
 use Rattle.text.proofs.superframe.superframe.Tie as tie
 
