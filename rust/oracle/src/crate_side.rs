@@ -251,6 +251,24 @@ fn superframe_from_values(v: &Values) -> Superframe {
     s
 }
 
+/// What the crate itself answers, where document 01 has another answer: its length, what its writer says with that room, and the bytes that
+/// it leaves in a buffer of `before`.
+pub fn unjudged_write(v: &Values, tail: &[u8], before: u8) -> String {
+    let record = from_values(v, tail);
+    let length = record.serialized_len();
+    let mut buf = vec![before; length];
+    let answer = record.serialize_into(&mut buf);
+    let shown: Vec<String> = buf.iter().take(44).map(|b| format!("{b:02X}")).collect();
+    format!("length {length}, {answer:?}, buffer {}", shown.join(" "))
+}
+
+pub fn unjudged_read(body: &[u8]) -> String {
+    match Record::parse(body) {
+        Ok(record) => format!("accepted, tail {}", record.reserved_tail.len()),
+        Err(error) => format!("{error:?}"),
+    }
+}
+
 /// That the crate's types give back every code that they are made from: `RollOff` all of them, `Polarization` its four.
 pub fn codes_come_back() -> bool {
     (0..=255).all(|code| RollOff::from_u8(code).to_u8() == code)

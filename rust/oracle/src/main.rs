@@ -2,6 +2,7 @@
 //!
 //!     oracle record                writes what the program `replay` has to print
 //!     oracle codes                 tells whether RollOff, Polarization and S2Xv2Mode give their codes back
+//!     oracle edges                 shows what the crate itself answers to the cases with a name that document 01 refuses otherwise
 //!     oracle show SET CASE         shows every number of a case, by name
 //!     oracle compare PROGRAM       finds the first case in which PROGRAM, a built `replay`, differs
 mod answer;
@@ -50,6 +51,30 @@ fn record() {
     }
 }
 
+/// The cases with a name to which the crate's answer is not document 01's.
+fn edges() {
+    let tail = generator::tail();
+    for (k, body) in named::bodies().iter().enumerate() {
+        if let Answer::Long(_) = crate_side::read(&body.bytes).answer {
+            println!("body {}: {}", k + 1, crate_side::unjudged_read(&body.bytes));
+        }
+    }
+    for (k, case) in named::records().iter().enumerate() {
+        let tail = &tail[..case.tail];
+        match crate_side::write(&case.values, tail, &mut [sets::BEFORE; 5000]) {
+            Answer::Accepted(_) => {}
+            answer => {
+                let words = words(&answer.numbers());
+                println!(
+                    "record {}: {words}; {}",
+                    k + 1,
+                    crate_side::unjudged_write(&case.values, tail, sets::BEFORE)
+                );
+            }
+        }
+    }
+}
+
 fn show(set: &str, case: &str) {
     let set = sets::SETS.iter().position(|s| s.name == set).expect("no such set");
     for (name, value) in compare::rows(set, case.parse().expect("a case is a number")) {
@@ -65,6 +90,10 @@ fn main() -> ExitCode {
             record();
             true
         }
+        ["edges"] => {
+            edges();
+            true
+        }
         ["codes"] => crate_side::codes_come_back(),
         ["show", set, case] => {
             show(set, case);
@@ -72,7 +101,7 @@ fn main() -> ExitCode {
         }
         ["compare", program] => compare::compare(program),
         _ => {
-            eprintln!("oracle record | codes | show SET CASE | compare PROGRAM");
+            eprintln!("oracle record | codes | edges | show SET CASE | compare PROGRAM");
             false
         }
     };
