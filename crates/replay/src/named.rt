@@ -669,6 +669,22 @@ fn zero(body: &mut [u8]) {
     }
 }
 
+fn body_entry(i: usize) -> u16 {
+    if i < 198 { BODIES[i] } else { 0 }
+}
+
+fn record_entry(i: usize) -> u32 {
+    if i < 430 { RECORDS[i] } else { 0 }
+}
+
+// Stores the pair of a place and a byte that stands at `at` in the list.
+fn store_at(body: &mut [u8], at: usize) {
+    if 198 < at {
+        return;
+    }
+    store(body, body_entry(at), body_entry(at + 1));
+}
+
 // Body `k` of the list.
 pub(crate) fn body(k: usize, body: &mut [u8]) -> Made {
     zero(body);
@@ -679,12 +695,12 @@ pub(crate) fn body(k: usize, body: &mut [u8]) -> Made {
         };
     }
     let at = k * 9;
-    store(body, BODIES[at + 1], BODIES[at + 2]);
-    store(body, BODIES[at + 3], BODIES[at + 4]);
-    store(body, BODIES[at + 5], BODIES[at + 6]);
-    store(body, BODIES[at + 7], BODIES[at + 8]);
+    store_at(body, at + 1);
+    store_at(body, at + 3);
+    store_at(body, at + 5);
+    store_at(body, at + 7);
     Made {
-        length: size16(BODIES[at]),
+        length: size16(body_entry(at)),
         spare: 1,
     }
 }
@@ -694,6 +710,14 @@ fn set(v: &mut [u32; 42], field: u32, value: u32) {
     if i < 42 {
         v[i] = value;
     }
+}
+
+// Sets the field whose number and value stand at `at` in the list.
+fn set_at(v: &mut [u32; 42], at: usize) {
+    if 430 < at {
+        return;
+    }
+    set(v, record_entry(at), record_entry(at + 1));
 }
 
 // Record `k` of the list.
@@ -707,14 +731,14 @@ pub(crate) fn record(k: usize) -> Case {
         };
     }
     let at = k * 10;
-    let mut v = plain(RECORDS[at], RECORDS[at + 1]);
-    set(&mut v, RECORDS[at + 4], RECORDS[at + 5]);
-    set(&mut v, RECORDS[at + 6], RECORDS[at + 7]);
-    set(&mut v, RECORDS[at + 8], RECORDS[at + 9]);
+    let mut v = plain(record_entry(at), record_entry(at + 1));
+    set_at(&mut v, at + 4);
+    set_at(&mut v, at + 6);
+    set_at(&mut v, at + 8);
     Case {
         values: v,
-        tail: size(RECORDS[at + 2]),
-        rule: RECORDS[at + 3],
+        tail: size(record_entry(at + 2)),
+        rule: record_entry(at + 3),
         spare: 0,
     }
 }
