@@ -1,14 +1,8 @@
-// The bodies of the sets.
+// The bodies of the sets. Each call gives four times the body's length, plus how much longer than it the buffer is into which it is written back.
 use crate::draw::fill;
 use crate::draw::mode_of;
 use crate::draw::next;
 use crate::draw::seed;
-
-// A body's length, and how much longer than it the buffer is into which it is written back.
-pub(crate) struct Made {
-    pub(crate) length: usize,
-    pub(crate) spare: usize,
-}
 
 // What the core asks for, and whether the other bits are set.
 struct Shape {
@@ -63,7 +57,7 @@ fn lay(s: Shape, bytes: &mut [u8], n: usize) {
 }
 
 // Every shape cut at every length.
-pub(crate) fn cut(case: u32, body: &mut [u8]) -> Made {
+pub(crate) fn cut(case: u32, body: &mut [u8]) -> usize {
     let s = case / 46;
     let asked = Shape {
         mode: s,
@@ -75,10 +69,7 @@ pub(crate) fn cut(case: u32, body: &mut [u8]) -> Made {
         full: s / 1024,
     };
     lay(asked, body, 46);
-    Made {
-        length: (case % 46) as usize,
-        spare: 1,
-    }
+    ((case % 46) as usize) * 4 + 1
 }
 
 // A byte with one of its bits turned over.
@@ -96,7 +87,7 @@ fn turned(b: u8, bit: u32) -> u8 {
 }
 
 // The walk over a body's bits: each one turned over alone, the others clear or set.
-pub(crate) fn bit(case: u32, body: &mut [u8]) -> Made {
+pub(crate) fn bit(case: u32, body: &mut [u8]) -> usize {
     let s = case / 360;
     let asked = Shape {
         mode: s % 8,
@@ -111,10 +102,7 @@ pub(crate) fn bit(case: u32, body: &mut [u8]) -> Made {
     let at = case % 360;
     let k = (at / 8) as usize;
     put(body, k, turned(get(body, k), at % 8));
-    Made {
-        length: 45,
-        spare: 0,
-    }
+    180
 }
 
 fn length_of(case: u32, draw: u32) -> usize {
@@ -147,15 +135,15 @@ fn set_core(case: u32, draw: u32, n: usize, body: &mut [u8]) {
     }
 }
 
+fn made(length: usize, spare: u32) -> usize {
+    length % 65_536 * 4 + (spare % 4) as usize
+}
+
 // Bodies by draws.
-pub(crate) fn drawn(case: u32, body: &mut [u8]) -> Made {
+pub(crate) fn drawn(case: u32, body: &mut [u8]) -> usize {
     let first = next(seed(case));
     let n = length_of(case, first / 65_536);
     let x = next(fill(body, n, first));
     set_core(case, x / 65_536, n, body);
-    let last = next(x);
-    Made {
-        length: n,
-        spare: (last / 65_536 % 3) as usize,
-    }
+    made(n, next(x) / 65_536 % 3)
 }

@@ -47,7 +47,7 @@ fn option32(there: u32, v: u32) -> OptionU32 {
     }
 }
 
-fn superframe(v: &[u32; 42]) -> S2Xv2Superframe {
+fn superframe(v: &[u32; 45]) -> S2Xv2Superframe {
     S2Xv2Superframe {
         sosf_wh_sequence_number: byte(v[29]),
         sffi_selector: set(v[30]),
@@ -63,7 +63,7 @@ fn superframe(v: &[u32; 42]) -> S2Xv2Superframe {
     }
 }
 
-fn superframe_if(v: &[u32; 42]) -> OptionSuperframe {
+fn superframe_if(v: &[u32; 45]) -> OptionSuperframe {
     if v[28] == 0 {
         OptionSuperframe::None
     } else {
@@ -71,7 +71,7 @@ fn superframe_if(v: &[u32; 42]) -> OptionSuperframe {
     }
 }
 
-pub(crate) fn record(v: &[u32; 42]) -> S2Xv2SatelliteDeliverySystem {
+pub(crate) fn record(v: &[u32; 45]) -> S2Xv2SatelliteDeliverySystem {
     S2Xv2SatelliteDeliverySystem {
         delivery_system_id: v[0],
         s2xv2_mode: mode(v[1], v[2]),

@@ -5,20 +5,14 @@
 // Asked by ten bytes on standard input, it shows one set from the inside instead: 1 for the digest after each case or 2 for every number
 // that goes into it; the set; the first case and the one after the last, four bytes each.
 mod body;
-mod count;
 mod digest;
 mod draw;
 mod made;
 mod named;
 mod run;
 mod shown;
+mod told;
 mod values;
-
-use digest::Digest;
-
-fn fresh(shown: bool) -> Digest {
-    Digest { value: 0, shown }
-}
 
 fn word(text: &[u8], n: u32) {
     io::write_all(1, text);
@@ -37,32 +31,42 @@ fn print_name(set: u32) {
     ;
 }
 
-fn print_named(kind: &[u8], k: usize, ran: run::Ran) {
-    let answer = ran.answer;
-    word(kind, std::num::wrapping_add_u32(digest::low(k), 1));
+// The digest of a case that was run, and the cell of its answer.
+fn digest_of(ran: u64) -> u32 {
+    (ran % 4_294_967_296) as u32
+}
+
+fn cell_of(ran: u64) -> usize {
+    (ran / 8_589_934_592) as usize
+}
+
+fn print_named(kind: &[u8], k: u32, t: &[u32; 5], ran: u64) {
+    word(kind, k % 64 + 1);
     io::write_all(1, b":");
-    count::print_answer(answer);
-    word(b"; ", ran.digest.value);
+    told::print(t);
+    word(b"; ", digest_of(ran));
     io::write_all(1, b"\n");
 }
 
-fn named_body(k: usize, body: &mut [u8], out: &mut [u8]) {
-    let made = named::body(k, body);
-    let ran = run::run_made(fresh(false), body, made, out);
-    print_named(b"body ", k, ran);
+fn named_body(k: u32, body: &mut [u8], out: &mut [u8]) {
+    let made = named::body(k as usize, body);
+    let t = run::answer_to_made(body, made);
+    print_named(b"body ", k, &t, run::run_made(0, body, made, out));
 }
 
-fn named_bodies(body: &mut [u8], out: &mut [u8]) {
+fn named_record(k: u32, out: &mut [u8], tail: &[u8]) {
+    let v = named::record(k as usize);
+    let ran = run::run_case(0, &v, tail, out);
+    print_named(b"record ", k, &run::written_to(&v, tail, out), ran);
+}
+
+fn named_cases(body: &mut [u8], out: &mut [u8], tail: &[u8]) {
     let mut k = 0;
     while k < 22 {
         named_body(k, body, out);
         k += 1;
     }
-}
-
-fn named_record(k: usize, out: &mut [u8], tail: &[u8]) {
-    let ran = run::run_case(fresh(false), named::record(k), tail, out);
-    print_named(b"record ", k, ran);
+    named_records(out, tail);
 }
 
 fn named_records(out: &mut [u8], tail: &[u8]) {
@@ -73,23 +77,13 @@ fn named_records(out: &mut [u8], tail: &[u8]) {
     }
 }
 
-// One case, counted.
-fn step(
-    set: u32,
-    case: u32,
-    d: Digest,
-    counts: &mut [u32; 43],
-    body: &mut [u8],
-    out: &mut [u8],
-    tail: &[u8],
-) -> Digest {
-    let ran = run::run(set, case, d, body, out, tail);
-    let answer = ran.answer;
-    count::count(counts, answer);
-    ran.digest
+fn count(counts: &mut [u32; 43], cell: usize) {
+    if cell < 43 {
+        counts[cell] = std::num::wrapping_add_u32(counts[cell], 1);
+    }
 }
 
-// All cases from 0 on.
+// All cases of a set from 0 on.
 fn count_all(
     set: u32,
     n: u32,
@@ -97,14 +91,15 @@ fn count_all(
     body: &mut [u8],
     out: &mut [u8],
     tail: &[u8],
-) -> Digest {
-    let mut d = fresh(false);
+) -> u32 {
+    let mut d: u64 = 0;
     let mut case = 0;
     while case < n {
-        d = step(set, case, d, counts, body, out, tail);
+        d = run::run(set, case, d % 8_589_934_592, body, out, tail);
+        count(counts, cell_of(d));
         case += 1;
     }
-    d
+    digest_of(d)
 }
 
 fn whole_set(set: u32, body: &mut [u8], out: &mut [u8], tail: &[u8]) {
@@ -114,9 +109,18 @@ fn whole_set(set: u32, body: &mut [u8], out: &mut [u8], tail: &[u8]) {
     print_name(set);
     word(b" ", n);
     io::write_all(1, b"\n");
-    count::print_counts(&counts);
-    word(b"digest ", d.value);
+    told::print_counts(&counts);
+    word(b"digest ", d);
     io::write_all(1, b"\n");
+}
+
+fn all(body: &mut [u8], out: &mut [u8], tail: &[u8]) {
+    named_cases(body, out, tail);
+    let mut set = 0;
+    while set < 5 {
+        whole_set(set, body, out, tail);
+        set += 1;
+    }
 }
 
 // Four bytes of a question.
@@ -124,45 +128,21 @@ fn number(a: u8, b: u8, c: u8, d: u8) -> u32 {
     (a as u32) * 16_777_216 + (b as u32) * 65_536 + (c as u32) * 256 + (d as u32)
 }
 
-fn show_digest(d: Digest) {
-    if !d.shown {
-        word(b"", d.value);
-        io::write_all(1, b"\n");
+fn show_digest(numbers: bool, ran: u64) {
+    if !numbers {
+        digest::show(digest_of(ran));
     }
 }
 
 // The digest after each case, or the numbers of all of them.
 fn show(numbers: bool, set: u32, from: u32, to: u32, body: &mut [u8], out: &mut [u8], tail: &[u8]) {
-    let mut counts = [0u32; 43];
-    let mut d = fresh(numbers);
+    let mut d: u64 = if numbers { 4_294_967_296 } else { 0 };
     let mut case = from;
     while case < to {
-        d = step(set, case, d, &mut counts, body, out, tail);
-        show_digest(d);
+        d = run::run(set, case, d % 8_589_934_592, body, out, tail);
+        show_digest(numbers, d);
         case += 1;
     }
-}
-
-fn named_cases(body: &mut [u8], out: &mut [u8], tail: &[u8]) {
-    named_bodies(body, out);
-    named_records(out, tail);
-}
-
-fn body_sets(body: &mut [u8], out: &mut [u8], tail: &[u8]) {
-    whole_set(0, body, out, tail);
-    whole_set(1, body, out, tail);
-    whole_set(2, body, out, tail);
-}
-
-fn record_sets(body: &mut [u8], out: &mut [u8], tail: &[u8]) {
-    whole_set(3, body, out, tail);
-    whole_set(4, body, out, tail);
-}
-
-fn all(body: &mut [u8], out: &mut [u8], tail: &[u8]) {
-    named_cases(body, out, tail);
-    body_sets(body, out, tail);
-    record_sets(body, out, tail);
 }
 
 fn main() {

@@ -1,8 +1,6 @@
 // The cases with a name: each row of document 01's table that a body or a record shows, the errors that look right, and the edges of both
 // lists.
-use crate::body::Made;
 use crate::body::put;
-use crate::values::Case;
 use crate::values::plain;
 
 // A body's length, and places and bytes of it that are not 0; a row ends with places 0.
@@ -653,12 +651,9 @@ fn store(body: &mut [u8], at: u16, byte: u16) {
     put(body, at as usize, (byte % 256) as u8);
 }
 
-fn size16(n: u16) -> usize {
-    n as usize
-}
-
-fn size(n: u32) -> usize {
-    n as usize
+// A body of a length, with one byte to spare.
+fn made(n: u16) -> usize {
+    (n as usize) * 4 + 1
 }
 
 fn zero(body: &mut [u8]) {
@@ -686,26 +681,20 @@ fn store_at(body: &mut [u8], at: usize) {
 }
 
 // Body `k` of the list.
-pub(crate) fn body(k: usize, body: &mut [u8]) -> Made {
+pub(crate) fn body(k: usize, body: &mut [u8]) -> usize {
     zero(body);
     if 22 <= k {
-        return Made {
-            length: 0,
-            spare: 0,
-        };
+        return 0;
     }
     let at = k * 9;
     store_at(body, at + 1);
     store_at(body, at + 3);
     store_at(body, at + 5);
     store_at(body, at + 7);
-    Made {
-        length: size16(body_entry(at)),
-        spare: 1,
-    }
+    made(body_entry(at))
 }
 
-fn set(v: &mut [u32; 42], field: u32, value: u32) {
+fn set(v: &mut [u32; 45], field: u32, value: u32) {
     let i = field as usize;
     if i < 42 {
         v[i] = value;
@@ -713,7 +702,7 @@ fn set(v: &mut [u32; 42], field: u32, value: u32) {
 }
 
 // Sets the field whose number and value stand at `at` in the list.
-fn set_at(v: &mut [u32; 42], at: usize) {
+fn set_at(v: &mut [u32; 45], at: usize) {
     if 430 < at {
         return;
     }
@@ -721,24 +710,16 @@ fn set_at(v: &mut [u32; 42], at: usize) {
 }
 
 // Record `k` of the list.
-pub(crate) fn record(k: usize) -> Case {
+pub(crate) fn record(k: usize) -> [u32; 45] {
     if 43 <= k {
-        return Case {
-            values: plain(0, 0),
-            tail: 0,
-            rule: 0,
-            spare: 0,
-        };
+        return plain(0, 0);
     }
     let at = k * 10;
     let mut v = plain(record_entry(at), record_entry(at + 1));
     set_at(&mut v, at + 4);
     set_at(&mut v, at + 6);
     set_at(&mut v, at + 8);
-    Case {
-        values: v,
-        tail: size(record_entry(at + 2)),
-        rule: record_entry(at + 3),
-        spare: 0,
-    }
+    v[42] = record_entry(at + 2);
+    v[43] = record_entry(at + 3);
+    v
 }

@@ -1,20 +1,17 @@
 // One case of a set: what is asked of the library, and what goes into the digest.
 use crate::body;
-use crate::body::Made;
-use crate::digest::Digest;
-use crate::digest::low;
+use crate::digest::put;
+use crate::digest::put_bytes;
 use crate::made::record;
 use crate::shown::put_record;
+use crate::told::cell;
+use crate::told::put_told;
+use crate::told::told;
 use crate::values;
-use crate::values::Case;
 use crate::values::room;
-use s2xv2::answer::Answer;
-use s2xv2::record::S2Xv2SatelliteDeliverySystem;
 
-// The digest after a case, and the answer that is counted: the reader's, or the writer's in the sets of records.
-pub(crate) struct Ran {
-    pub(crate) digest: Digest,
-    pub(crate) answer: Answer,
+fn size(v: u32) -> usize {
+    v as usize
 }
 
 // What a buffer holds before it is written.
@@ -26,124 +23,166 @@ fn clear(out: &mut [u8]) {
     }
 }
 
-// What a body reads as.
-fn put_reading(d: Digest, body: &[u8]) -> Ran {
+// What the reader answers.
+fn answer_to(body: &[u8]) -> [u32; 5] {
     let read = reader::parse(body);
     let answer = read.answer;
-    let record = read.body;
-    let tail = reader::reserved_tail(body);
-    let digest = put_record(d.put_answer(answer), record)
-        .put(low(tail.len()))
-        .put_bytes(tail);
-    Ran { digest, answer }
+    told(answer)
 }
 
-// A record is written into a buffer; what was in the buffer is gone.
-fn put_writing(d: Digest, r: S2Xv2SatelliteDeliverySystem, tail: &[u8], out: &mut [u8]) -> Ran {
-    clear(out);
-    let answer = writer::serialize_into(r, tail, out);
-    let digest = d.put_answer(answer).put_bytes(out);
-    Ran { digest, answer }
+fn put_body(d: u64, body: &[u8]) -> u64 {
+    let read = reader::parse(body);
+    let record = read.body;
+    put_record(d, record)
+}
+
+fn put_tail(d: u64, body: &[u8]) -> u64 {
+    let tail = reader::reserved_tail(body);
+    put_bytes(put(d, (tail.len() % 4_294_967_296) as u32), tail)
+}
+
+// All that the reader says of a body.
+fn put_reading(d: u64, body: &[u8]) -> u64 {
+    let t = answer_to(body);
+    put_tail(put_body(put_told(d, &t), body), body)
 }
 
 // What was read is written back.
-fn write_back(d: Digest, body: &[u8], out: &mut [u8]) -> Digest {
+fn back(body: &[u8], out: &mut [u8]) -> [u32; 5] {
     let read = reader::parse(body);
     let record = read.body;
     let tail = reader::reserved_tail(body);
-    let ran = put_writing(d, record, tail, out);
-    ran.digest
+    clear(out);
+    let answer = writer::serialize_into(record, tail, out);
+    told(answer)
 }
 
-// A body is read, and where it is accepted written back.
-fn run_body(d: Digest, body: &[u8], spare: usize, out: &mut [u8]) -> Ran {
-    let ran = put_reading(d, body);
-    let answer = ran.answer;
-    let digest = ran.digest;
-    if out.len() < spare {
-        return ran;
+fn put_back(d: u64, body: &[u8], out: &mut [u8]) -> u64 {
+    let t = back(body, out);
+    put_bytes(put_told(d, &t), out)
+}
+
+// The digest, with the answer's cell above it.
+fn with_cell(d: u64, t: &[u32; 5]) -> u64 {
+    let c = (cell(t) % 64) as u64;
+    d % 8_589_934_592 + c * 8_589_934_592
+}
+
+// A body is read, and where it is accepted written back into a buffer that is `spare` bytes longer.
+fn run_body(start: u64, body: &[u8], spare: usize, out: &mut [u8]) -> u64 {
+    let t = answer_to(body);
+    let d = put_reading(start, body);
+    if t[1] != 0 {
+        return with_cell(d, &t);
     }
-    if out.len() - spare < body.len() {
-        return ran;
+    if 4 < spare {
+        return with_cell(d, &t);
     }
     let n = body.len() + spare;
-    match answer {
-        Answer::Accepted(_) => Ran {
-            digest: write_back(digest, body, &mut out[0..n]),
-            answer,
-        },
-        Answer::Refused(_) => ran,
-    }
-}
-
-pub(crate) fn run_made(d: Digest, body: &[u8], made: Made, out: &mut [u8]) -> Ran {
-    let n = made.length;
-    if n <= body.len() {
-        run_body(d, &body[0..n], made.spare, out)
-    } else {
-        run_body(d, &body[0..0], made.spare, out)
-    }
-}
-
-// A record that was written is read back.
-fn read_back(ran: Ran, out: &[u8]) -> Ran {
-    let answer = ran.answer;
-    let digest = ran.digest;
-    match answer {
-        Answer::Accepted(n) => {
-            if n <= out.len() {
-                let back = put_reading(digest, &out[0..n]);
-                let after = back.digest;
-                Ran {
-                    digest: after,
-                    answer,
-                }
-            } else {
-                ran
-            }
-        }
-        Answer::Refused(_) => ran,
-    }
-}
-
-fn length_or(answer: Answer, other: usize) -> usize {
-    match answer {
-        Answer::Accepted(n) => n,
-        Answer::Refused(_) => other,
-    }
-}
-
-// A record is measured and written, and where it is accepted read back.
-fn run_record(
-    d: Digest,
-    r: S2Xv2SatelliteDeliverySystem,
-    tail: &[u8],
-    rule: u32,
-    spare: u32,
-    out: &mut [u8],
-) -> Ran {
-    let measured = writer::serialized_len(r, tail);
-    let digest = d.put_answer(measured);
-    let n = room(length_or(measured, 64), rule, spare);
     if out.len() < n {
-        return Ran {
-            digest,
-            answer: measured,
-        };
+        return with_cell(d, &t);
     }
-    let part = &mut out[0..n];
-    let ran = put_writing(digest, r, tail, part);
-    read_back(ran, part)
+    with_cell(put_back(d, body, &mut out[0..n]), &t)
 }
 
-pub(crate) fn run_case(d: Digest, case: Case, tail: &[u8], out: &mut [u8]) -> Ran {
-    let v = case.values;
-    let n = case.tail;
-    let r = record(&v);
-    if n <= tail.len() {
-        run_record(d, r, &tail[0..n], case.rule, case.spare, out)
+// The same, of the first bytes of a buffer; `made` is four times their number, plus the spare bytes.
+pub(crate) fn run_made(d: u64, body: &[u8], made: usize, out: &mut [u8]) -> u64 {
+    let n = made / 4;
+    if n <= body.len() {
+        run_body(d, &body[0..n], made % 4, out)
     } else {
-        run_record(d, r, &tail[0..0], case.rule, case.spare, out)
+        d
+    }
+}
+
+// What the reader answers to such a body.
+pub(crate) fn answer_to_made(body: &[u8], made: usize) -> [u32; 5] {
+    let n = made / 4;
+    if n <= body.len() {
+        answer_to(&body[0..n])
+    } else {
+        [0, 0, 0, 0, 0]
+    }
+}
+
+fn measured(v: &[u32; 45], tail: &[u8]) -> [u32; 5] {
+    let r = record(v);
+    let answer = writer::serialized_len(r, tail);
+    told(answer)
+}
+
+fn written(v: &[u32; 45], tail: &[u8], out: &mut [u8]) -> [u32; 5] {
+    let r = record(v);
+    clear(out);
+    let answer = writer::serialize_into(r, tail, out);
+    told(answer)
+}
+
+// What was written is read back, where it was accepted.
+fn put_read_back(d: u64, t: &[u32; 5], out: &[u8]) -> u64 {
+    let n = size(t[2]);
+    if t[1] != 0 {
+        return d;
+    }
+    if n <= out.len() {
+        put_reading(d, &out[0..n])
+    } else {
+        d
+    }
+}
+
+// A record is written into a buffer, and where it is accepted read back.
+fn run_written(d: u64, v: &[u32; 45], tail: &[u8], out: &mut [u8]) -> u64 {
+    let t = written(v, tail, out);
+    let after = put_bytes(put_told(d, &t), out);
+    with_cell(put_read_back(after, &t, out), &t)
+}
+
+// The length of the buffer for a record.
+fn room_for(v: &[u32; 45], t: &[u32; 5]) -> usize {
+    if t[1] == 0 {
+        room(t[2], v[43], v[44])
+    } else {
+        room(64, v[43], v[44])
+    }
+}
+
+fn run_record(d: u64, v: &[u32; 45], tail: &[u8], out: &mut [u8]) -> u64 {
+    let t = measured(v, tail);
+    let n = room_for(v, &t);
+    let after = put_told(d, &t);
+    if n <= out.len() {
+        run_written(after, v, tail, &mut out[0..n])
+    } else {
+        after
+    }
+}
+
+// What the writer answers to a record, with its tail and its buffer.
+pub(crate) fn written_to(v: &[u32; 45], tail: &[u8], out: &mut [u8]) -> [u32; 5] {
+    let n = size(v[42]);
+    if tail.len() < n {
+        return [0, 0, 0, 0, 0];
+    }
+    written_in_room(v, &tail[0..n], out)
+}
+
+fn written_in_room(v: &[u32; 45], tail: &[u8], out: &mut [u8]) -> [u32; 5] {
+    let n = room_for(v, &measured(v, tail));
+    if n <= out.len() {
+        written(v, tail, &mut out[0..n])
+    } else {
+        [0, 0, 0, 0, 0]
+    }
+}
+
+// A record is measured, written, and where it is accepted read back, with the tail that it asks for.
+pub(crate) fn run_case(d: u64, v: &[u32; 45], tail: &[u8], out: &mut [u8]) -> u64 {
+    let n = size(v[42]);
+    if n <= tail.len() {
+        run_record(d, v, &tail[0..n], out)
+    } else {
+        d
     }
 }
 
@@ -159,28 +198,34 @@ pub(crate) fn cases(set: u32) -> u32 {
     }
 }
 
+fn make(set: u32, case: u32, body: &mut [u8]) -> usize {
+    match set {
+        0 => body::cut(case, body),
+        1 => body::bit(case, body),
+        _ => body::drawn(case, body),
+    }
+}
+
+fn values_of(set: u32, case: u32) -> [u32; 45] {
+    if set == 3 {
+        values::walk(case)
+    } else {
+        values::drawn(case)
+    }
+}
+
 pub(crate) fn run(
     set: u32,
     case: u32,
-    d: Digest,
+    d: u64,
     body: &mut [u8],
     out: &mut [u8],
     tail: &[u8],
-) -> Ran {
-    match set {
-        0 => {
-            let made = body::cut(case, body);
-            run_made(d, body, made, out)
-        }
-        1 => {
-            let made = body::bit(case, body);
-            run_made(d, body, made, out)
-        }
-        2 => {
-            let made = body::drawn(case, body);
-            run_made(d, body, made, out)
-        }
-        3 => run_case(d, values::walk(case), tail, out),
-        _ => run_case(d, values::drawn(case), tail, out),
+) -> u64 {
+    if set < 3 {
+        let made = make(set, case, body);
+        run_made(d, body, made, out)
+    } else {
+        run_case(d, &values_of(set, case), tail, out)
     }
 }

@@ -1,5 +1,5 @@
 // A record as plain numbers: a flag is 0 or 1, and what may be absent is a number that says whether it is there, followed by its value.
-use crate::digest::Digest;
+use crate::digest::put_all;
 use s2xv2::mode::S2Xv2Mode;
 use s2xv2::option::OptionBool;
 use s2xv2::option::OptionU8;
@@ -130,10 +130,12 @@ fn superframe(o: OptionSuperframe) -> [u32; 14] {
     }
 }
 
+fn put_superframe(d: u64, o: OptionSuperframe) -> u64 {
+    put_all(d, &superframe(o))
+}
+
 // All fields of a record, into the digest.
-pub(crate) fn put_record(d: Digest, r: S2Xv2SatelliteDeliverySystem) -> Digest {
+pub(crate) fn put_record(d: u64, r: S2Xv2SatelliteDeliverySystem) -> u64 {
     let frame = r.superframe;
-    d.put_all(&core(r))
-        .put_all(&parts(r))
-        .put_all(&superframe(frame))
+    put_superframe(put_all(put_all(d, &core(r)), &parts(r)), frame)
 }

@@ -1,4 +1,5 @@
-// Records as plain numbers, in the order of `shown`: by walks over their fields, and by draws.
+// Records as plain numbers, in the order of `shown`: by walks over their fields, and by draws. Behind the 42 fields stand the tail's length,
+// the rule for the buffer's length, and a number that the rule uses.
 use crate::draw::draws;
 use crate::draw::mode_of;
 
@@ -138,20 +139,12 @@ const PLACES: [u32; 42] = [
     22,
 ];
 
-// A record, its tail's length, and the rule for the buffer's length.
-pub(crate) struct Case {
-    pub(crate) values: [u32; 42],
-    pub(crate) tail: usize,
-    pub(crate) rule: u32,
-    pub(crate) spare: u32,
-}
-
 fn low(v: u64) -> u32 {
     (v % 4_294_967_296) as u32
 }
 
 // 1 in a mode of one of two codes that is not held by `Reserved`.
-fn in_modes(v: &[u32; 42], a: u32, b: u32) -> u32 {
+fn in_modes(v: &[u32; 45], a: u32, b: u32) -> u32 {
     if v[2] != 0 {
         return 0;
     }
@@ -170,8 +163,8 @@ fn once(full: u32, v: u32) -> u32 {
     if full == 0 { 0 } else { v }
 }
 
-fn all(full: u32) -> [u32; 42] {
-    let mut v = [0u32; 42];
+fn all(full: u32) -> [u32; 45] {
+    let mut v = [0u32; 45];
     let mut i = 0;
     while i < 42 {
         v[i] = once(full, LARGEST[i]);
@@ -181,7 +174,7 @@ fn all(full: u32) -> [u32; 42] {
 }
 
 // A consistent record with every field at 0, or every field of those that are there at its largest.
-pub(crate) fn plain(mode: u32, full: u32) -> [u32; 42] {
+pub(crate) fn plain(mode: u32, full: u32) -> [u32; 45] {
     let mut v = all(full);
     v[1] = mode;
     v[2] = 0;
@@ -239,17 +232,14 @@ fn turned(v: u32, weight: u32) -> u32 {
 }
 
 // The walk over a record's fields: each bit of each field's type turned over alone, the others at 0 or at their largest.
-pub(crate) fn walk(case: u32) -> Case {
+pub(crate) fn walk(case: u32) -> [u32; 45] {
     let field = (case % 42) as usize;
     let full = case / 21_504 % 2;
     let mut values = plain(case / 1344 % 16, full);
     values[field] = turned(values[field], weight(case / 42 % 32, TYPES[field]));
-    Case {
-        values,
-        tail: (full * 3) as usize,
-        rule: 3,
-        spare: 0,
-    }
+    values[42] = full * 3;
+    values[43] = 3;
+    values
 }
 
 // Which faults a record has: places of list B by their numbers, and after them those of list A.
@@ -282,8 +272,8 @@ fn value(draw: u32, largest: u32, widest: u32, fault: bool) -> u32 {
     }
 }
 
-fn values(d: &[u32; 48], f: Faults) -> [u32; 42] {
-    let mut v = [0u32; 42];
+fn values(d: &[u32; 48], f: Faults) -> [u32; 45] {
+    let mut v = [0u32; 45];
     let mut i = 0;
     while i < 42 {
         v[i] = value(d[i], LARGEST[i], TYPES[i], f.b(PLACES[i]));
@@ -307,7 +297,7 @@ fn behind(set: bool, absent: bool, extra: bool) -> u32 {
     if extra { 1 } else { 0 }
 }
 
-fn set_head(v: &mut [u32; 42], d: &[u32; 48], f: Faults) {
+fn set_head(v: &mut [u32; 45], d: &[u32; 48], f: Faults) {
     if !f.b(1) {
         v[1] = mode_of(d[1]);
     }
@@ -337,7 +327,7 @@ fn bonds(bonded: bool, draw: u32, count: bool, extra: bool) -> u32 {
     }
 }
 
-fn set_parts(v: &mut [u32; 42], d: &[u32; 48], f: Faults) {
+fn set_parts(v: &mut [u32; 45], d: &[u32; 48], f: Faults) {
     v[17] = toggled(v[3], f.a(2));
     v[10] = chosen(toggled(in_modes(v, 1, 2), f.a(3)), d[10] % 2);
     v[20] = behind(v[10] == 2, f.b(10), f.a(4));
@@ -348,42 +338,38 @@ fn set_parts(v: &mut [u32; 42], d: &[u32; 48], f: Faults) {
     v[38] = behind(v[31] == 1, f.b(20), f.a(9));
 }
 
-fn tail_length(case: u32, draw: u32) -> usize {
+fn tail_length(case: u32, draw: u32) -> u32 {
     if case % 8192 == 8191 {
-        return (65_480 + draw % 80) as usize;
+        return 65_480 + draw % 80;
     }
     if case % 256 == 255 {
-        return (4030 + draw % 80) as usize;
+        return 4030 + draw % 80;
     }
-    (draw % 8) as usize
+    draw % 8
 }
 
 // Records by draws.
-pub(crate) fn drawn(case: u32) -> Case {
+pub(crate) fn drawn(case: u32) -> [u32; 45] {
     let d = draws(case);
     let faults = Faults(d[44] % 48, d[45] % 96);
     let mut v = values(&d, faults);
     set_head(&mut v, &d, faults);
     set_parts(&mut v, &d, faults);
-    Case {
-        values: v,
-        tail: tail_length(case, d[42]),
-        rule: d[43] % 8,
-        spare: d[43] / 8,
-    }
+    v[42] = tail_length(case, d[42]);
+    v[43] = d[43] % 8;
+    v[44] = d[43] / 8;
+    v
 }
 
 // The length of the buffer for a record of a length.
-pub(crate) fn room(length: usize, rule: u32, spare: u32) -> usize {
-    if 65_536 < length {
-        return 0;
-    }
+pub(crate) fn room(length: u32, rule: u32, spare: u32) -> usize {
+    let n = (length % 65_536) as usize;
     match rule {
         0 => 0,
-        1 => if length == 0 { 0 } else { length - 1 },
-        3 => length + 1,
-        4 => length + 1 + (spare % 16) as usize,
+        1 => if n == 0 { 0 } else { n - 1 },
+        3 => n + 1,
+        4 => n + 1 + (spare % 16) as usize,
         5 => (spare % 64) as usize,
-        _ => length,
+        _ => n,
     }
 }

@@ -13,14 +13,17 @@ Inv-loop set n counts₀ body₀ out₀ tail d₀ case₀ counts body out d case
 abbrev μ-loop : tie.MeasureT-loop
 μ-loop set n counts₀ body₀ out₀ tail d₀ case₀ counts body out d case = n - case
 
-fresh-requires : tie.Need-fresh-requires Inv-loop μ-loop
-fresh-requires c κs = search needs
-
 loop-holds : tie.Need-loop-holds Inv-loop μ-loop
 loop-holds c = search needs
 
-step-requires : tie.Need-step-requires Inv-loop μ-loop
-step-requires c κs = search needs
+run-requires : tie.Need-run-requires Inv-loop μ-loop
+run-requires c κs = search needs
+
+cell-of-requires : tie.Need-cell-of-requires Inv-loop μ-loop
+cell-of-requires c κs = search needs
+
+count-requires : tie.Need-count-requires Inv-loop μ-loop
+count-requires c κs = search needs
 
 add-case : tie.Need-add-case Inv-loop μ-loop
 add-case c = search needs
@@ -30,6 +33,9 @@ loop-less c = search needs
 
 loop-again : tie.Need-loop-again Inv-loop μ-loop
 loop-again c = search needs
+
+digest-of-requires : tie.Need-digest-of-requires Inv-loop μ-loop
+digest-of-requires c κs = search needs
 
 same-length : tie.Need-same-length Inv-loop μ-loop
 same-length c = search needs
@@ -46,12 +52,14 @@ count-all-spec =
     (tie.spec
     Inv-loop
     μ-loop
-    fresh-requires
     loop-holds
-    step-requires
+    run-requires
+    cell-of-requires
+    count-requires
     add-case
     loop-less
     loop-again
+    digest-of-requires
     same-length
     same-length-2
     returns)

@@ -8,19 +8,16 @@ use Rattle.replay.proofs.show.Statement.{statement}
 use Rattle.replay.proofs.show.Tie as tie
 
 abbrev Inv-loop : tie.InvT-loop
-Inv-loop numbers set from to body₀ out₀ tail counts₀ d₀ case₀ body out counts d case = (length body ≡ length body₀) × (length out ≡ length out₀)
+Inv-loop numbers set from to body₀ out₀ tail d₀ case₀ body out d case = (length body ≡ length body₀) × (length out ≡ length out₀)
 
 abbrev μ-loop : tie.MeasureT-loop
-μ-loop numbers set from to body₀ out₀ tail counts₀ d₀ case₀ body out counts d case = to - case
-
-fresh-requires : tie.Need-fresh-requires Inv-loop μ-loop
-fresh-requires c κs = search needs
+μ-loop numbers set from to body₀ out₀ tail d₀ case₀ body out d case = to - case
 
 loop-holds : tie.Need-loop-holds Inv-loop μ-loop
 loop-holds c = search needs
 
-step-requires : tie.Need-step-requires Inv-loop μ-loop
-step-requires c κs = search needs
+run-requires : tie.Need-run-requires Inv-loop μ-loop
+run-requires c κs = search needs
 
 show-digest-requires : tie.Need-show-digest-requires Inv-loop μ-loop
 show-digest-requires c κs = search needs
@@ -49,9 +46,8 @@ show-spec =
     (tie.spec
     Inv-loop
     μ-loop
-    fresh-requires
     loop-holds
-    step-requires
+    run-requires
     show-digest-requires
     add-case
     loop-less

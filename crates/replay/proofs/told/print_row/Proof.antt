@@ -1,9 +1,9 @@
--- `replay::count::print_row` is safe and ends. Nothing has to hold from turn to turn; the measure is what is left of the count.
+-- `replay::told::print_row` is safe and ends. Nothing has to hold from turn to turn; the measure is what is left of the count.
 -- Assumes nothing.
 use Prim.Native.Nat.{_-_}
 use borrow.Author.Needs.{needs}
-use Rattle.replay.proofs.count.print_row.Statement.{statement}
-use Rattle.replay.proofs.count.print_row.Tie as tie
+use Rattle.replay.proofs.told.print_row.Statement.{statement}
+use Rattle.replay.proofs.told.print_row.Tie as tie
 
 abbrev Inv-loop : tie.InvT-loop
 Inv-loop counts answer from to i₀ t6 i = Unit {0}
@@ -17,14 +17,11 @@ print-decimal-requires c κs = search needs
 loop-holds : tie.Need-loop-holds Inv-loop μ-loop
 loop-holds c = search needs
 
-mul-word32 : tie.Need-mul-word32 Inv-loop μ-loop
-mul-word32 c = search needs
+count-at-requires : tie.Need-count-at-requires Inv-loop μ-loop
+count-at-requires c κs = search needs
 
-element-copy-out-word32 : tie.Need-element-copy-out-word32 Inv-loop μ-loop
-element-copy-out-word32 c = search needs
-
-word32-requires : tie.Need-word32-requires Inv-loop μ-loop
-word32-requires c κs = search needs
+word-requires : tie.Need-word-requires Inv-loop μ-loop
+word-requires c κs = search needs
 
 add-i : tie.Need-add-i Inv-loop μ-loop
 add-i c = search needs
@@ -52,9 +49,8 @@ print-row-spec =
     μ-loop
     print-decimal-requires
     loop-holds
-    mul-word32
-    element-copy-out-word32
-    word32-requires
+    count-at-requires
+    word-requires
     add-i
     loop-less
     loop-again

@@ -1,16 +1,16 @@
--- `replay::digest::Digest::put_all` is safe and ends. Nothing has to hold from turn to turn; the measure is what is left of the count.
+-- `replay::digest::put_all` is safe and ends. Nothing has to hold from turn to turn; the measure is what is left of the count.
 -- Assumes nothing.
 use Prim.Native.Nat.{_-_}
 use borrow.Author.Needs.{needs}
 use lib.ListN.{length}
-use Rattle.replay.proofs.digest.Digest.put_all.Statement.{statement}
-use Rattle.replay.proofs.digest.Digest.put_all.Tie as tie
+use Rattle.replay.proofs.digest.put_all.Statement.{statement}
+use Rattle.replay.proofs.digest.put_all.Tie as tie
 
 abbrev Inv-loop : tie.InvT-loop
-Inv-loop values d₀ i₀ d i = Unit {0}
+Inv-loop start values d₀ i₀ d i = Unit {0}
 
 abbrev μ-loop : tie.MeasureT-loop
-μ-loop values d₀ i₀ d i = length values - i
+μ-loop start values d₀ i₀ d i = length values - i
 
 loop-holds : tie.Need-loop-holds Inv-loop μ-loop
 loop-holds c = search needs
