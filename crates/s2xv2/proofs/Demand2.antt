@@ -90,6 +90,10 @@ write-read-accepted s y z room k =
 pub carried-read : (s : List ℕ) → carried (recordIn s) ≡ recordIn s
 carried-read = read-carried
 
+-- The numbers of a record that was read are within their types: so `read-written` speaks of every record that was read.
+pub held-read : (s : List ℕ) → Bytes s → Held (recordIn s)
+held-read = read-held
+
 -- ---- refusals of the writer
 
 module _ (r : S2Xv2SatelliteDeliverySystem) (tail : List ℕ) (a : inconsistency r ≡ 0) (n : encodedLength r tail ≤ 4096) where

@@ -59,9 +59,6 @@ reaches-all s k n h =
     let g = block-order (k .superframe) (hasPlan s (bondEnd s k)) in
     (omega arith, (omega arith, (omega arith, (omega arith, (omega arith, (omega arith, (omega arith, (omega arith, (omega arith, (h, tt))))))))))
 
-pub core-first : (s : List ℕ) (k : Present) → 18 ≤ superframeEnd s k
-core-first s k = omega arith
-
 -- ---- the answer
 
 pub refused-number : (why : Refusal) → eqb (numberOf (numbers why)) 0 ≡ false
