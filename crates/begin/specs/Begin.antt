@@ -1,4 +1,4 @@
--- What begin answers: `beginTold` in numbers, made of `fitTold` and `stageTold`, and `beginOf` with the job, which is `newJob` or, if it is refused, `noJob`
+-- What begin answers: `beginTold` in numbers, made of `fitTold` and `stageTold`, and `beginOf`, a `Begins`, with the job, which is `newJob` or, if it is refused, `noJob`
 -- (`answered`); `begunSeen` is an answer so. `sizeOf` and `descriptorOf` are the descriptor of a record and its tail, `padded` as it is staged in
 -- `stagedSize` bytes; `Sized` is what the private functions require of sizes. Assumes nothing.
 use Prim.Native.Nat.{ℕ, _+_, _-_, _≤_}

@@ -1,5 +1,4 @@
--- What holds of a step of any job, begun, old or forged: it stores only bytes of its own list; and an allowance of 0 changes
--- nothing. A step runs some of the job's stores, or none.
+-- A step of any job, begun, old or forged, stores only bytes of its own list, and none with an allowance of 0: it runs some of the job's stores, or none.
 -- Assumes nothing.
 use mathlib.Core.Path.{_≡_, refl, sym, ap, _∙_}
 use mathlib.Core.Bool.{Bool, true, false}

@@ -1,6 +1,6 @@
--- DEMAND 3 after k stores. A job's stores lay a cover over the slot, so `safe` asks five facts of the form, which are the slot's laws; what the finished slot
--- reads as is what was written, by the round trip of the body. `middle-safe` and `middle-ends` are the same for any middle that leaves the right bytes.
+-- DEMAND 3 after k stores: the job's stores lay a cover over the slot, the laws of the form give the five facts that `safe` asks, and the body reads as it was written.
 -- Assumes nothing.
+-- `middle-safe` and `middle-ends` are the same for any middle that leaves the right bytes.
 use mathlib.Core.Path.{_≡_, refl, sym, ap, _∙_}
 use mathlib.Core.List.{List, [], _∷_, _++_, append-nil}
 use mathlib.Core.Bool.{true}

@@ -1,5 +1,4 @@
--- A job begun where another stopped. The slot there is in good form and of the same size, which is all that begin asks of it, and all stores of a job leave the
--- same bytes whatever stood there. So it ends as on a slot that was never interrupted.
+-- A job begun where another stopped ends as on a slot never interrupted: begin asks of a slot only its form and its size, and all stores of a job leave the same bytes whatever stood there.
 -- Assumes nothing.
 use mathlib.Core.Path.{_≡_, refl, sym, ap, _∙_}
 use mathlib.Core.List.{List}

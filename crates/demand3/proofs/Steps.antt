@@ -1,5 +1,4 @@
--- Demand 3 after steps with any allowances. Each step takes the job and the slot from k stores to as many more as it may make, so after any steps the slot is
--- the one after as many stores as the job says, and what holds after k stores holds there.
+-- Demand 3 after steps with any allowances: each step goes from k stores to as many more as it may make, so the slot is the one after as many stores as the job says.
 -- Assumes nothing.
 use mathlib.Core.Path.{_≡_, refl, sym, ap, _∙_}
 use mathlib.Core.List.{List, [], _∷_}

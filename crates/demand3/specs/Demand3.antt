@@ -1,5 +1,5 @@
 -- What demand 3 claims. `Ready` says that a slot is in good form and a record is one that the writer accepts and that fits; `jobStores` are the stores of its
--- job; `readsAfter` says what a slot reads as after k of m stores, and `holds` what it shows of a record and its tail. Assumes nothing.
+-- job; `readsAfter` says what a slot reads as after k of m stores, `due` that for a job, and `holds` what it shows of a record and its tail. Assumes nothing.
 use Prim.Native.Nat.{ℕ, _+_}
 use mathlib.Core.Path.{_≡_}
 use mathlib.Core.Bool.{true}

@@ -1,4 +1,4 @@
--- A job and its slot under steps: `Going` is both, `begun` where begin leaves them, `stepping` takes them through steps with given allowances, as the contract of step says; `sum` adds the
+-- A job and its slot under steps: `Going` is both, `begun` where begin leaves them, `step` takes them one step on, `stepping` through steps with given allowances, as the contract of step says; `sum` adds the
 -- allowances, and `AllPositive` says that each is at least 1. Assumes nothing.
 use Prim.Native.Nat.{ℕ, _+_, _≤_}
 use mathlib.Core.List.{List, [], _∷_}

@@ -1,5 +1,5 @@
--- When a slot is in good form (document 01, 'Slot and job'): `goodForm`, made of `goodSize`, `goodFirst` and `goodRest`. `byteAt` is a byte of
--- a slot, `bodyIn` the body in its first descriptor; `all` says that every test of a list holds. Assumes nothing.
+-- When a slot is in good form (document 01, 'Slot and job'): `goodForm`, by its `formTests`: `goodSize`, `goodFirst` (with `oursTests` for a descriptor of ours) and `goodRest`
+-- (with `stuffedTests` for stuffing behind it). `byteAt` is a byte of a slot, `bodyIn` the body in its first descriptor; `all` says that every test of a list holds. Assumes nothing.
 use Prim.Native.Nat.{ℕ, _+_, _-_}
 use mathlib.Core.List.{List, [], _∷_}
 use mathlib.Core.Bool.{Bool, true, _&&_, _||_}

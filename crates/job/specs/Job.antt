@@ -1,5 +1,6 @@
--- A job: its `descriptor` and the stores that it has `todo`; `jobOf` its parts, `withMade` and `advanced` it later; `nextStore`, `nextStores` what it makes
--- next, and `left` how many there are. `fair` says that begin and steps could give its numbers; `Fair` has the same as facts. Assumes nothing.
+-- A job: its `descriptor`, the `firstBytes` of what is staged, and the stores that it has `todo`; `nextStore` (`none` behind the last), `nextStores`, and how many are `left`. `jobOf` makes
+-- it of its parts, `withMade` and `advanced` are it later. `fair`, by `fairTests`, says that begin and steps could give its numbers; `Fair` has the same as facts; `fitsIn`, by `fitTests`,
+-- that a descriptor fits a slot. Assumes nothing.
 use Prim.Native.Nat.{ℕ, zero, suc, _+_, _-_, _≤_}
 use mathlib.Core.Path.{_≡_}
 use mathlib.Core.List.{List, [], _∷_}

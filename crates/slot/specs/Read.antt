@@ -1,4 +1,4 @@
--- What a slot reads as: `shown`. It is `showsNone` for a slot out of form, `showsEmpty` for one whose first tag is stuffing's, else `showsBody` of
+-- What a slot reads as: `shown`, a `Shown`. It is `showsNone` for a slot out of form, `showsEmpty` for one whose first tag is stuffing's (both `without` a record), else `showsBody` of
 -- the body in it, with the reader's answer `placed` in the slot. `ReadsAs` joins good form to what is shown. Assumes nothing.
 use Prim.Native.Nat.{ℕ, _+_, _-_}
 use mathlib.Core.Path.{_≡_}
