@@ -21,7 +21,6 @@ use Rattle.s2xv2.specs.Write.{writeTold}
 use Rattle.s2xv2.proofs.Reach.{refused-number}
 use Rattle.form.specs.Form.{goodForm}
 use Rattle.job.specs.declared.job.Job.{Job}
-use Rattle.job.specs.Job.{fitsIn}
 use Rattle.job.proofs.Fairness.{facts-fits, not-fits}
 use Rattle.begin.specs.Begin.{newJob, noJob, sizeOf, descriptorOf, Sized, stageTold, fitTold, beginTold, Begins, answered}
 

@@ -1,9 +1,9 @@
 -- Begin accepts exactly where demand 3 speaks: each test of its answer is one of the facts of `Ready`.
 -- Assumes nothing.
-use mathlib.Core.Path.{_≡_, refl, sym, ap, _∙_}
+use mathlib.Core.Path.{_≡_, refl}
 use mathlib.Core.List.{List, [], _∷_}
 use mathlib.Core.Bool.{Bool, true, false}
-use Prim.Native.Nat.{ℕ, _+_, _≤_, _<_}
+use Prim.Native.Nat.{ℕ, _+_, _≤_}
 use native.Mathlib.Omega.{arith}
 use borrow.Author.Tests.{le-ltb, ltb-false}
 use lib.ListN.{length}
@@ -20,7 +20,7 @@ use Rattle.s2xv2.specs.ListB.{unwritable}
 use Rattle.form.specs.Form.{goodForm}
 use Rattle.form.proofs.GoodForm.{form-size}
 use Rattle.job.specs.Job.{fitsIn}
-use Rattle.begin.specs.Begin.{sizeOf, descriptorOf, newJob, beginTold, fitTold, stageTold, Begins, beginOf}
+use Rattle.begin.specs.Begin.{sizeOf, descriptorOf, newJob, beginTold, fitTold, stageTold, beginOf}
 use Rattle.job.proofs.Fairness.{fits-facts}
 use Rattle.demand3.specs.Demand3.{Ready}
 

@@ -1,9 +1,9 @@
 -- A step of any job, begun, old or forged, stores only bytes of its own list, and none with an allowance of 0: it runs some of the job's stores, or none.
 -- Assumes nothing.
-use mathlib.Core.Path.{_≡_, refl, sym, ap, _∙_}
+use mathlib.Core.Path.{_≡_, refl, ap}
 use mathlib.Core.Bool.{Bool, true, false}
-use mathlib.Core.List.{List, []}
-use Prim.Native.Nat.{ℕ, _+_, _-_, min}
+use mathlib.Core.List.{List}
+use Prim.Native.Nat.{ℕ, _-_}
 use native.Mathlib.Omega.{arith}
 use lib.ListN.{length, getD, take, drop}
 use Rattle.wire.specs.Flags.{when}
@@ -12,8 +12,8 @@ use Rattle.stores.specs.Run.{run, Own}
 use Rattle.stores.specs.Run.Own.{kept, ours}
 use Rattle.stores.proofs.Laws.{run-own, member-take, member-drop}
 use Rattle.job.specs.declared.job.Job.{Job}
-use Rattle.job.specs.Job.{todo, left, nextStores, withMade, fair}
-use Rattle.job.specs.Step.{Steps, accepts, refuses, stepCount, stepOf, slotAfter}
+use Rattle.job.specs.Job.{todo, nextStores, withMade, fair}
+use Rattle.job.specs.Step.{accepts, refuses, stepCount, stepOf, slotAfter}
 use Rattle.demand3.specs.Stepping.{Going, step}
 
 -- ---- only its own bytes

@@ -1,7 +1,7 @@
 -- DEMAND 3 after k stores: the job's stores lay a cover over the slot, the laws of the form give the five facts that `safe` asks, and the body reads as it was written.
 -- Assumes nothing.
 -- `middle-safe` and `middle-ends` are the same for any middle that leaves the right bytes.
-use mathlib.Core.Path.{_≡_, refl, sym, ap, _∙_}
+use mathlib.Core.Path.{_≡_, refl, ap, _∙_}
 use mathlib.Core.List.{List, [], _∷_, _++_, append-nil}
 use mathlib.Core.Bool.{true}
 use Prim.Native.Nat.{ℕ, suc, _+_, _-_, _≤_}
@@ -10,15 +10,14 @@ use lib.ListN.{length, take, drop, drop-of-length-le}
 use lib.Seq.{sets-eq}
 use Rattle.wire.specs.Parts.{sizes}
 use Rattle.s2xv2.specs.declared.record.S2Xv2SatelliteDeliverySystem.{S2Xv2SatelliteDeliverySystem}
-use Rattle.s2xv2.specs.Read.{Reading, readOf, tailOf}
+use Rattle.s2xv2.specs.Read.{Reading, tailOf}
 use Rattle.s2xv2.specs.Encode.{partsOf, encode, encodedLength}
-use Rattle.s2xv2.specs.Carried.{carried}
 use Rattle.s2xv2.proofs.Whole.{encode-length}
 use Rattle.s2xv2.proofs.Round.{read-encode, tail-encode}
 use Rattle.stores.specs.declared.store.Store.{Store}
 use Rattle.stores.specs.Run.{run, upwards, Within}
 use Rattle.stores.proofs.Laws.{upwards-length, upwards-run, upwards-within}
-use Rattle.form.specs.Envelope.{tag, stuffingTag, envelope, stuffing, holding}
+use Rattle.form.specs.Envelope.{tag, stuffingTag, envelope, holding}
 use Rattle.form.specs.Form.{goodForm}
 use Rattle.slot.specs.Read.{Shown, showsEmpty, showsBody, placed, shown, ReadsAs}
 use Rattle.form.proofs.GoodForm.{form-size}

@@ -9,16 +9,15 @@ use lib.ListN.{length, take}
 use lib.Seq.{take-all}
 use Rattle.s2xv2.specs.declared.record.S2Xv2SatelliteDeliverySystem.{S2Xv2SatelliteDeliverySystem}
 use Rattle.s2xv2.specs.Encode.{encode}
-use Rattle.stores.specs.Run.{run}
 use Rattle.stores.proofs.Laws.{run-length}
 use Rattle.form.specs.Envelope.{holding}
 use Rattle.form.specs.Form.{goodForm}
 use Rattle.begin.specs.Begin.{beginTold, beginOf, descriptorOf}
 use Rattle.job.proofs.Lists.{stores-length}
 use Rattle.job.proofs.Fairness.{fits-facts}
-use Rattle.demand3.specs.Demand3.{Ready, jobStores, due}
+use Rattle.demand3.specs.Demand3.{Ready, jobStores}
 use Rattle.demand3.specs.Stepping.{Going, begun, stepping, sum}
-use Rattle.demand3.proofs.Fold.{fits-it, ends, demand3}
+use Rattle.demand3.proofs.Fold.{fits-it, ends}
 use Rattle.demand3.proofs.Steps.{after-steps, demand3-steps}
 
 -- begin asks of a slot only its form and its size

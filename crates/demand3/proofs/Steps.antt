@@ -1,12 +1,12 @@
 -- Demand 3 after steps with any allowances: each step goes from k stores to as many more as it may make, so the slot is the one after as many stores as the job says.
 -- Assumes nothing.
-use mathlib.Core.Path.{_≡_, refl, sym, ap, _∙_}
+use mathlib.Core.Path.{_≡_, refl, ap, _∙_}
 use mathlib.Core.List.{List, [], _∷_}
 use mathlib.Core.Bool.{true, false}
 use Prim.Native.Nat.{ℕ, _+_, _-_, _≤_, _<_, min}
 use native.Mathlib.Omega.{arith}
 use borrow.Author.Tests.{eq-eqb, ne-eqb}
-use lib.ListN.{length, take, drop, replicate}
+use lib.ListN.{length, take, replicate}
 use Rattle.s2xv2.specs.Encode.{partsOf, encodedLength}
 use Rattle.s2xv2.specs.declared.record.S2Xv2SatelliteDeliverySystem.{S2Xv2SatelliteDeliverySystem}
 use Rattle.stores.specs.Run.{run}
@@ -17,7 +17,7 @@ use Rattle.job.specs.declared.job.Job.{Job}
 use Rattle.job.specs.Stores.{stores}
 use Rattle.job.specs.Job.{todo, withMade, fair, Fair}
 use Rattle.job.specs.Step.{stepOf, slotAfter}
-use Rattle.begin.specs.Begin.{padded, newJob, descriptorOf, sizeOf, Begins, beginOf}
+use Rattle.begin.specs.Begin.{padded, newJob, descriptorOf, Begins}
 use Rattle.job.proofs.Lists.{first-all}
 use Rattle.job.proofs.Fairness.{facts-fair, fits-facts}
 use Rattle.demand3.specs.Demand3.{Ready, jobStores, due}

@@ -3,7 +3,7 @@
 -- `form-body` says what a slot in form has behind a tag of ours; `cover-form` that a stuffing descriptor over the whole slot puts it in form whatever stands behind its two bytes;
 -- `retag-form` that it stays in form when the first tag becomes stuffing's; `holding-form` that a descriptor of ours with stuffing behind it is in form.
 use mathlib.Core.Path.{_≡_, refl, sym, ap, _∙_}
-use mathlib.Core.List.{List, [], _∷_, _++_}
+use mathlib.Core.List.{List}
 use mathlib.Core.Logic.{⊎-elim}
 use mathlib.Core.Bool.{Bool, true, false, _||_}
 use Prim.Native.Nat.{ℕ, suc, _+_, _-_, _≤_, _<_}

@@ -2,7 +2,7 @@
 -- Assumes nothing.
 use mathlib.Core.Path.{_≡_, refl, sym, ap, _∙_}
 use mathlib.Core.Bool.{true, false}
-use mathlib.Core.List.{List, [], _∷_}
+use mathlib.Core.List.{List}
 use Prim.Native.Nat.{ℕ, _+_, _-_, _≤_, _<_}
 use native.Mathlib.Omega.{arith}
 use lib.Dec.{eqb}
@@ -13,9 +13,8 @@ use Rattle.stores.specs.Run.{stored, run}
 use Rattle.stores.proofs.Laws.{run-more}
 use Rattle.job.specs.declared.job.Job.{Job}
 use Rattle.job.specs.declared.job.StepAnswer.the-variants.{Accepted, OtherSize}
-use Rattle.job.specs.declared.advance.Moved.{Moved}
 use Rattle.job.specs.Job.{todo, left, none, nextStore, nextStores, advanced, fair, Fair}
-use Rattle.job.specs.Step.{Steps, movedSeen, stepCount, stepOf, slotAfter}
+use Rattle.job.specs.Step.{movedSeen, stepCount, stepOf, slotAfter}
 use Rattle.job.proofs.Places.{todo-length}
 
 -- the stores of a job do not hang on how many are made

@@ -1,14 +1,14 @@
 -- A fair job as facts and back: each test is an equation, and omega goes between the tests and the facts.
 -- Assumes nothing.
 use mathlib.Core.Path.{_≡_, refl, sym, _∙_}
-use mathlib.Core.Bool.{Bool, true, false, not, false≢true}
+use mathlib.Core.Bool.{true, false, not, false≢true}
 use mathlib.Core.List.{List, []}
 use Prim.Native.Nat.{ℕ, _+_, _≤_}
 use native.Mathlib.Omega.{arith}
 use borrow.Author.Tests.{leb-true, eqb-true, eqb-false, not-true, le-leb, eq-eqb, ne-eqb}
 use lib.Dec.{eqb}
 use Rattle.form.specs.Form.{goodSize}
-use Rattle.form.proofs.Tests.{all-each, each-all, fails, from-tests, to-tests}
+use Rattle.form.proofs.Tests.{all-each, each-all, fails}
 use Rattle.form.proofs.GoodForm.{size-facts, facts-size}
 use Rattle.job.specs.declared.job.Job.{Job}
 use Rattle.job.specs.Job.{jobOf, fitTests, fitsIn, fairTests, fair, Fair}

@@ -10,7 +10,7 @@ use lib.Seq.{getD-drop, getD-append-add}
 use Rattle.stores.specs.declared.store.Store.{Store}
 use Rattle.stores.specs.Run.{_at_, upwards, Within}
 use Rattle.stores.proofs.Laws.{upwards-length, upwards-at, upwards-within, within-append}
-use Rattle.form.specs.Envelope.{tag, stuffingTag, stuffing}
+use Rattle.form.specs.Envelope.{tag, stuffing}
 use Rattle.form.proofs.Stuffing.{stuffing-length}
 use Rattle.job.specs.Stores.{behind, covered, stores}
 use Rattle.job.specs.Job.{firstBytes, none}

@@ -1,6 +1,6 @@
 -- What a step answers and leaves: `stepOf`, a `Steps`, which `accepts` or `refuses`, and `slotAfter`; `stepCount` is the stores that it makes. `stepTold` is an answer in numbers, `stepSeen` a
 -- whole answer so, and `movedSeen` the answer of a step that has the job in parts. Assumes nothing.
-use Prim.Native.Nat.{ℕ, _+_, min}
+use Prim.Native.Nat.{ℕ, min}
 use mathlib.Core.List.{List, [], _∷_}
 use mathlib.Core.Bool.{Bool, false}
 use lib.ListN.{length}

@@ -17,9 +17,9 @@ use Rattle.slot.specs.declared.answer.SlotAnswer.{SlotAnswer}
 use Rattle.form.specs.Envelope.{stuffingTag}
 use Rattle.form.specs.Form.{byteAt, bodyIn, goodForm}
 use Rattle.slot.specs.Answer.{slotTold, slotSeen}
-use Rattle.slot.specs.Read.{Shown, showsNone, showsEmpty, showsBody, placed, shown}
+use Rattle.slot.specs.Read.{Shown, showsNone, showsBody, placed, shown}
 use Rattle.form.proofs.GoodForm.{form-size}
-use Rattle.slot.proofs.Laws.{shown-empty, shown-body}
+use Rattle.slot.proofs.Laws.{shown-body}
 
 pub shown-none : (s : List ℕ) → goodForm s ≡ false → shown s ≡ showsNone
 unfolding shown

@@ -1,6 +1,6 @@
 -- `begin::begin` meets its contract: the form is tested first, then the length call's answer is taken, and what it accepts goes to `fit`.
 -- Assumes nothing.
-use mathlib.Core.Path.{refl, sym, ap, _∙_}
+use mathlib.Core.Path.{sym, ap, _∙_}
 use mathlib.Core.List.{List}
 use Prim.Native.Nat.{ℕ}
 use native.Mathlib.Omega.{arith}

@@ -1,6 +1,5 @@
 -- `begin::refused` meets its contract: `no_job` gives the job that is none.
 -- Assumes nothing.
-use mathlib.Core.Path.{refl}
 use borrow.Author.Needs.{needs}
 use Rattle.begin.proofs.refused.Statement.{statement}
 use Rattle.begin.proofs.refused.Tie as tie

@@ -1,13 +1,11 @@
 -- `slot::empty::fill` meets its contract: after i turns the slot has the first i bytes of the stuffing descriptor, and behind them its own.
 -- Assumes nothing.
-use mathlib.Core.Path.{_≡_, refl, sym, ap, _∙_}
-use Prim.Native.Nat.{ℕ, _-_, _≤_}
+use mathlib.Core.Path.{_≡_, refl, sym, _∙_}
+use Prim.Native.Nat.{_-_, _≤_}
 use native.Mathlib.Omega.{arith}
-use borrow.Author.Needs.{needs}
-use lib.ListN.{length}
 use lib.Seq.{paste}
 use Rattle.form.specs.Envelope.{stuffing}
-use Rattle.form.proofs.Stuffing.{stuffing-length, over-length, over-more, over-all}
+use Rattle.form.proofs.Stuffing.{over-length, over-more, over-all}
 use Rattle.slot.proofs.empty.fill.Statement.{statement}
 use Rattle.slot.proofs.empty.fill.Tie as tie
 

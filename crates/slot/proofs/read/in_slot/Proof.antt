@@ -1,6 +1,6 @@
 -- `slot::read::in_slot` meets its contract: an accepted body's tail starts inside it, and a refused body is told as it is.
 -- Assumes nothing.
-use mathlib.Core.Path.{sym, ap, _∙_}
+use mathlib.Core.Path.{sym, ap}
 use native.Mathlib.Omega.{arith}
 use Rattle.s2xv2.specs.Answer.{told}
 use Rattle.slot.proofs.Reading.{placed-refused}

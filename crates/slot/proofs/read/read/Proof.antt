@@ -4,7 +4,6 @@ use mathlib.Core.Path.{sym, ap, _∙_}
 use native.Mathlib.Omega.{arith}
 use Rattle.slot.specs.Answer.{slotSeen}
 use Rattle.slot.specs.Read.{Shown}
-use Rattle.slot.specs.declared.answer.SlotRead.{SlotRead}
 use Rattle.form.proofs.GoodForm.{form-size}
 use Rattle.slot.proofs.Laws.{shown-empty}
 use Rattle.slot.proofs.Reading.{shown-none, body-size, place-within, reads-body}

@@ -2,7 +2,6 @@
 -- Assumes nothing.
 use mathlib.Core.Path.{sym, ap, _∙_}
 use native.Mathlib.Omega.{arith}
-use denote.Ref.{now}
 use Rattle.slot.specs.Read.{Shown}
 use Rattle.form.proofs.GoodForm.{form-size}
 use Rattle.slot.proofs.Laws.{shown-empty}
