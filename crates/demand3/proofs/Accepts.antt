@@ -17,6 +17,7 @@ use Rattle.s2xv2.specs.Read.{numberOf}
 use Rattle.s2xv2.specs.Encode.{encodedLength}
 use Rattle.s2xv2.specs.ListA.{inconsistency}
 use Rattle.s2xv2.specs.ListB.{unwritable}
+use Rattle.s2xv2.specs.Write.{writeTold}
 use Rattle.form.specs.Form.{goodForm}
 use Rattle.form.proofs.GoodForm.{form-size}
 use Rattle.job.specs.Job.{fitsIn}
@@ -72,3 +73,18 @@ module _ (s : List ℕ) (r : S2Xv2SatelliteDeliverySystem) (tail : List ℕ) whe
       let i : inconsistency r ≤ 0 = ltb-false 0 (inconsistency r) (a₃ .0) in
       let w : unwritable r ≤ 0 = ltb-false 0 (unwritable r) (a₄ .0) in
       record { form = a₆ .0; consistent = omega arith; writable = omega arith; fits = a₇ .0; held = h; bytes = b }
+
+  -- Where the writer accepts a record with its tail, whatever the room, the slot is in good form and the descriptor fits, demand 3 speaks.
+  pub writer-ready : Held r → Bytes tail → goodForm s ≡ true → fitsIn (sizeOf r tail) (length s) ≡ true → (room : ℕ) → numberOf (writeTold r tail room) ≡ 0 → Ready s r tail
+  unfolding writeTold
+  writer-ready h b g f room e =
+      let w₄ = when (ltb 0 (unwritable r)) (4 ∷ unwritable r ∷ []) (0 ∷ encodedLength r tail ∷ []) in
+      let w₅ = when (ltb room (encodedLength r tail)) (5 ∷ encodedLength r tail ∷ room ∷ []) w₄ in
+      let w₂ = when (ltb 4096 (encodedLength r tail)) (2 ∷ saturated (encodedLength r tail) ∷ []) w₅ in
+      let a₃ = zero-else (ltb 0 (inconsistency r)) (3 ∷ inconsistency r ∷ []) w₂ e (λ (z : _≡_ {A = ℕ} 3 0). omega arith) in
+      let a₂ = zero-else (ltb 4096 (encodedLength r tail)) (2 ∷ saturated (encodedLength r tail) ∷ []) w₅ (a₃ .1) (λ (z : _≡_ {A = ℕ} 2 0). omega arith) in
+      let a₅ = zero-else (ltb room (encodedLength r tail)) (5 ∷ encodedLength r tail ∷ room ∷ []) w₄ (a₂ .1) (λ (z : _≡_ {A = ℕ} 5 0). omega arith) in
+      let a₄ = zero-else (ltb 0 (unwritable r)) (4 ∷ unwritable r ∷ []) (0 ∷ encodedLength r tail ∷ []) (a₅ .1) (λ (z : _≡_ {A = ℕ} 4 0). omega arith) in
+      let i : inconsistency r ≤ 0 = ltb-false 0 (inconsistency r) (a₃ .0) in
+      let w : unwritable r ≤ 0 = ltb-false 0 (unwritable r) (a₄ .0) in
+      record { form = g; consistent = omega arith; writable = omega arith; fits = f; held = h; bytes = b }
