@@ -1,0 +1,105 @@
+// One job, store by store: the slot after each, and what it reads as. docs/JOB.md shows what this program writes.
+ghost use Prim.Native.Nat.{_<_};
+use job::job::Job;
+use libc::STDOUT_FILENO;
+use s2xv2::record::S2Xv2SatelliteDeliverySystem;
+use slot::answer::SlotAnswer;
+
+// Writes one byte.
+fn put(b: u8) {
+    let s = [b];
+    io::write_all(STDOUT_FILENO, &s);
+}
+
+// Writes a digit.
+fn digit(x: u8)
+    requires { ⌜ x < 16 ⌝ }
+{
+    if x < 10 {
+        put(48 + x);
+    } else {
+        put(55 + x);
+    }
+}
+
+// Writes a byte in two hexadecimal digits, and a space.
+fn hex(x: u8) {
+    digit(x / 16);
+    digit(x % 16);
+    put(32);
+}
+
+// Writes a number below 100 in two decimal digits.
+fn decimal(n: usize) {
+    digit((n / 10 % 10) as u8);
+    digit((n % 10) as u8);
+}
+
+// Writes what the slot reads as: the low byte of satellite_id, which tells the two records apart, and the tail's length.
+fn reading(s: &[u8]) {
+    let r = slot::read::read(s);
+    let a = r.answer;
+    let id = r.body.satellite_id;
+    match a {
+        SlotAnswer::Accepted { place: _, length } => {
+            io::write_all(STDOUT_FILENO, b"record ");
+            hex((id % 256) as u8);
+            io::write_all(STDOUT_FILENO, b"tail ");
+            decimal(length);
+        }
+        SlotAnswer::Empty => {
+            io::write_all(STDOUT_FILENO, b"empty");
+        }
+        SlotAnswer::Refused(_) => {
+            io::write_all(STDOUT_FILENO, b"refused");
+        }
+    }
+}
+
+// Writes how many stores are made, the slot's bytes, and what it reads as.
+fn show(k: usize, s: &[u8]) {
+    decimal(k);
+    put(32);
+    put(32);
+    let mut i: usize = 0;
+    while i < s.len() {
+        hex(s[i]);
+        i += 1;
+    }
+    put(32);
+    reading(s);
+    put(10);
+}
+
+// A record whose bytes are all x, but for byte 4, which is mode 0 with x for its roll-off.
+fn record(x: u8, all: u32, three: u32) -> S2Xv2SatelliteDeliverySystem {
+    let mut r = S2Xv2SatelliteDeliverySystem::default();
+    r.delivery_system_id = all;
+    r.roll_off = x;
+    r.polarization = x;
+    r.receiver_profiles = x;
+    r.satellite_id = three;
+    r.frequency = all;
+    r.symbol_rate = all;
+    r
+}
+
+fn main() {
+    let mut s = [0u8; 25];
+    slot::empty::make_empty(&mut s);
+    let tail = [171u8; 1];
+    let old = begin::begin(&s, record(1, 16843009, 65793), &tail);
+    let before = old.job;
+    before.step(&mut s, 300);
+    let begun = begin::begin(&s, record(2, 33686018, 131586), &tail[..0]);
+    let mut j = begun.job;
+    let mut k: usize = 0;
+    show(k, &s);
+    while k < 27 {
+        let d = j.step(&mut s, 1);
+        let next = d.job;
+        j = next;
+        k += 1;
+        show(k, &s);
+    }
+}
