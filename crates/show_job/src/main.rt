@@ -71,16 +71,17 @@ fn show(k: usize, s: &[u8]) {
     put(10);
 }
 
-// A record whose bytes are all x, but for byte 4, which is mode 0 with x for its roll-off.
-fn record(x: u8, all: u32, three: u32) -> S2Xv2SatelliteDeliverySystem {
+// The record whose body is 18 bytes of `x`.
+fn record(x: u8) -> S2Xv2SatelliteDeliverySystem {
+    let four = (x as u32) * 16843009;
     let mut r = S2Xv2SatelliteDeliverySystem::default();
-    r.delivery_system_id = all;
+    r.delivery_system_id = four;
     r.roll_off = x;
     r.polarization = x;
     r.receiver_profiles = x;
-    r.satellite_id = three;
-    r.frequency = all;
-    r.symbol_rate = all;
+    r.satellite_id = four % 16777216;
+    r.frequency = four;
+    r.symbol_rate = four;
     r
 }
 
@@ -88,10 +89,10 @@ fn main() {
     let mut s = [0u8; 25];
     slot::empty::make_empty(&mut s);
     let tail = [171u8; 1];
-    let old = begin::begin(&s, record(1, 16843009, 65793), &tail);
+    let old = begin::begin(&s, record(1), &tail);
     let before = old.job;
     before.step(&mut s, 300);
-    let begun = begin::begin(&s, record(2, 33686018, 131586), &tail[..0]);
+    let begun = begin::begin(&s, record(2), &tail[..0]);
     let mut j = begun.job;
     let mut k: usize = 0;
     show(k, &s);
