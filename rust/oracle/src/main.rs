@@ -1,6 +1,7 @@
 //! The crate's own code beside the Rattle. See docs/DIFFERENCES.md for what stands in for what is missing.
 //!
 //!     oracle record                writes what the program `replay` has to print
+//!     oracle record-jobs           writes what the program `replay_jobs` has to print, by a plain model of the slot and its job
 //!     oracle codes                 tells whether RollOff, Polarization and S2Xv2Mode give their codes back
 //!     oracle edges                 shows what the crate itself answers to the cases with a name that document 01 refuses otherwise
 //!     oracle show SET CASE         shows every number of a case, by name
@@ -9,6 +10,7 @@ mod answer;
 mod compare;
 mod crate_side;
 mod generator;
+mod jobs;
 mod model;
 mod named;
 mod sets;
@@ -51,6 +53,15 @@ fn record() {
     }
 }
 
+fn record_jobs() {
+    let mut counts = jobs::Counts::default();
+    let mut s = Stream::default();
+    for case in 0..jobs::CASES {
+        jobs::run(case, &mut s, &mut counts);
+    }
+    println!("jobs {}\n{}\ndigest {}", jobs::CASES, words(&counts), s.digest);
+}
+
 /// The cases with a name to which the crate's answer is not document 01's.
 fn edges() {
     let tail = generator::tail();
@@ -90,6 +101,10 @@ fn main() -> ExitCode {
             record();
             true
         }
+        ["record-jobs"] => {
+            record_jobs();
+            true
+        }
         ["edges"] => {
             edges();
             true
@@ -101,7 +116,7 @@ fn main() -> ExitCode {
         }
         ["compare", program] => compare::compare(program),
         _ => {
-            eprintln!("oracle record | codes | edges | show SET CASE | compare PROGRAM");
+            eprintln!("oracle record | record-jobs | codes | edges | show SET CASE | compare PROGRAM");
             false
         }
     };

@@ -1,0 +1,155 @@
+// Jobs on slots: for every slot size and several records, a job is stopped after every number of stores; what the slot then reads as and
+// holds, and what a new job begun there leaves, goes into a digest. What is printed is what a plain model of document 01 gives if all is
+// right.
+mod sample;
+mod stop;
+
+use sample::fill;
+use sample::store;
+
+// How long the body of a case is, in a slot of `n` bytes.
+fn count_of(kind: u32, n: usize) -> usize {
+    if n < 21 {
+        return 18;
+    }
+    match kind {
+        0 => 18,
+        1 => n - 3,
+        2 => n - 4,
+        3 => n - 5,
+        4 => n - 2,
+        _ => 18 + (n - 21) / 2,
+    }
+}
+
+// The body of a case: one with no conditional part, or one that asks for all of them.
+fn make_body(case: u32, kind: u32, count: usize, body: &mut [u8]) {
+    fill(body, count, case % 65_536 + 7);
+    store(body, 4, if kind == 5 { 95 } else { 7 });
+    store(body, 5, if kind == 5 { 247 } else { 243 });
+}
+
+fn count(counts: &mut [u32; 5], cell: usize) {
+    if cell < 5 {
+        counts[cell] = std::num::wrapping_add_u32(counts[cell], 1);
+    }
+}
+
+// One number of stores.
+fn one_stop(
+    d: u32,
+    start: &[u8],
+    slot: &mut [u8],
+    body: &[u8],
+    tail: &[u8],
+    made: usize,
+    counts: &mut [u32; 5],
+) -> u32 {
+    let after = stop::put_stop(d, start, slot, body, made);
+    count(counts, stop::reading_cell(slot));
+    stop::put_again(after, slot, tail)
+}
+
+// Every number of stores.
+fn stops(
+    begun: u32,
+    n: usize,
+    start: &[u8],
+    slot: &mut [u8],
+    body: &[u8],
+    tail: &[u8],
+    counts: &mut [u32; 5],
+) -> u32 {
+    let mut d = begun;
+    let mut made = 0;
+    while made < n {
+        d = one_stop(d, start, slot, body, tail, made, counts);
+        made += 1;
+    }
+    d
+}
+
+fn run_in(
+    d: u32,
+    odd: bool,
+    body: &[u8],
+    tail: &[u8],
+    start: &mut [u8],
+    slot: &mut [u8],
+    counts: &mut [u32; 5],
+) -> u32 {
+    stop::prepare(start, odd);
+    count(counts, stop::begin_cell(start, body));
+    let begun = stop::begin_told(d, start, body);
+    let n = start.len();
+    if 257 < n {
+        return d;
+    }
+    stops(begun, n + 3, start, slot, body, tail, counts)
+}
+
+// A case: its slot has `n` bytes.
+fn run(
+    d: u32,
+    case: u32,
+    body: &mut [u8],
+    start: &mut [u8],
+    slot: &mut [u8],
+    tail: &[u8],
+    counts: &mut [u32; 5],
+) -> u32 {
+    let kind = case / 237;
+    let n = (21 + case % 237) as usize;
+    let b = count_of(kind, n);
+    make_body(case, kind, b, body);
+    if body.len() < b || start.len() < n || slot.len() < n || tail.len() < n - 21 {
+        return d;
+    }
+    run_in(
+        d,
+        kind % 2 == 1,
+        &body[0..b],
+        &tail[0..n - 21],
+        &mut start[0..n],
+        &mut slot[0..n],
+        counts,
+    )
+}
+
+fn run_all(
+    body: &mut [u8],
+    start: &mut [u8],
+    slot: &mut [u8],
+    tail: &[u8],
+    counts: &mut [u32; 5],
+) -> u32 {
+    let mut d: u32 = 0;
+    let mut case = 0;
+    while case < 1422 {
+        d = run(d, case, body, start, slot, tail, counts);
+        case += 1;
+    }
+    d
+}
+
+fn word(text: &[u8], n: u32) {
+    io::write_all(1, text);
+    io::print_decimal(1, n as u64);
+}
+
+fn main() {
+    let mut body = [0u8; 300];
+    let mut start = [0u8; 257];
+    let mut slot = [0u8; 257];
+    let mut tail = [0u8; 257];
+    let mut counts = [0u32; 5];
+    fill(&mut tail, 257, 1);
+    let d = run_all(&mut body, &mut start, &mut slot, &tail, &mut counts);
+    word(b"jobs 1422\n", counts[0]);
+    word(b" ", counts[1]);
+    word(b" ", counts[2]);
+    word(b" ", counts[3]);
+    word(b" ", counts[4]);
+    word(b"\ndigest ", d);
+    io::write_all(1, b"\n");
+}

@@ -1,0 +1,129 @@
+// A job on a slot, stopped after a number of stores.
+use crate::sample::copy;
+use crate::sample::put;
+use crate::sample::put_bytes;
+use crate::sample::put_size;
+use job::job::Job;
+use job::job::StepAnswer;
+use s2xv2::answer::Answer;
+use s2xv2::answer::Refusal;
+use s2xv2::record::S2Xv2SatelliteDeliverySystem;
+use slot::answer::SlotAnswer;
+
+// The refusals that a slot or a begin gives here; any other is a number that document 01 does not have.
+fn put_refusal(d: u32, why: Refusal) -> u32 {
+    match why {
+        Refusal::Slot => put(d, 6),
+        Refusal::NoFit { size } => put_size(put(d, 7), size),
+        _ => put(d, 99),
+    }
+}
+
+// What begin answers.
+pub(crate) fn begin_told(d: u32, slot: &[u8], body: &[u8]) -> u32 {
+    let answer = begun(slot, body);
+    match answer {
+        Answer::Accepted(n) => put_size(put(d, 0), n),
+        Answer::Refused(why) => put_refusal(d, why),
+    }
+}
+
+fn begun(slot: &[u8], body: &[u8]) -> Answer {
+    let read = reader::parse(body);
+    let record = read.body;
+    let tail = reader::reserved_tail(body);
+    let b = begin::begin(slot, record, tail);
+    b.answer
+}
+
+// Whether begin is accepted: 0, or else 1.
+pub(crate) fn begin_cell(slot: &[u8], body: &[u8]) -> usize {
+    let answer = begun(slot, body);
+    match answer {
+        Answer::Accepted(_) => 0,
+        Answer::Refused(_) => 1,
+    }
+}
+
+fn job_for(slot: &[u8], body: &[u8]) -> Job {
+    let read = reader::parse(body);
+    let record = read.body;
+    let tail = reader::reserved_tail(body);
+    let b = begin::begin(slot, record, tail);
+    b.job
+}
+
+fn answer_number(answer: StepAnswer) -> u32 {
+    match answer {
+        StepAnswer::Accepted => 0,
+        StepAnswer::OtherSize => 8,
+    }
+}
+
+fn bit(b: bool) -> u32 {
+    if b { 1 } else { 0 }
+}
+
+// A step of so many stores.
+fn put_step(d: u32, slot: &mut [u8], body: &[u8], allowance: usize) -> u32 {
+    let job = job_for(slot, body);
+    let s = job.step(slot, allowance);
+    let answer = s.answer;
+    put(
+        put(put_size(d, s.stores), bit(s.done)),
+        answer_number(answer),
+    )
+}
+
+// What a slot reads as: 0 with the tail's place and length, 9 for an empty one, or a refusal.
+fn put_reading(d: u32, slot: &[u8]) -> u32 {
+    let r = slot::read::read(slot);
+    let answer = r.answer;
+    match answer {
+        SlotAnswer::Accepted { place, length } => put_size(put_size(put(d, 0), place), length),
+        SlotAnswer::Empty => put(d, 9),
+        SlotAnswer::Refused(why) => put_refusal(d, why),
+    }
+}
+
+// As what a slot reads: 2 for a record, 3 for an empty one, 4 for neither.
+pub(crate) fn reading_cell(slot: &[u8]) -> usize {
+    let r = slot::read::read(slot);
+    let answer = r.answer;
+    match answer {
+        SlotAnswer::Accepted {
+            place: _,
+            length: _,
+        } => 2,
+        SlotAnswer::Empty => 3,
+        SlotAnswer::Refused(_) => 4,
+    }
+}
+
+// A whole job with the default record and a tail.
+fn whole_job(slot: &mut [u8], tail: &[u8]) {
+    let b = begin::begin(slot, S2Xv2SatelliteDeliverySystem::default(), tail);
+    let job = b.job;
+    job.step(slot, 1000);
+}
+
+// Makes the slot empty, and where asked stores the default record in it.
+pub(crate) fn prepare(slot: &mut [u8], stored: bool) {
+    slot::empty::make_empty(slot);
+    if stored {
+        whole_job(slot, &[]);
+    }
+}
+
+// Stops a job after a number of stores, and puts what is then in the slot.
+pub(crate) fn put_stop(d: u32, start: &[u8], slot: &mut [u8], body: &[u8], made: usize) -> u32 {
+    copy(start, slot);
+    let after = put_step(d, slot, body, made);
+    put_bytes(put_reading(after, slot), slot)
+}
+
+// A new job that is begun there.
+pub(crate) fn put_again(d: u32, slot: &mut [u8], tail: &[u8]) -> u32 {
+    whole_job(slot, tail);
+    put_bytes(d, slot)
+}
