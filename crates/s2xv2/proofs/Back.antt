@@ -1,24 +1,24 @@
 -- Writing what was read. For each part: what stands at p is the part's bytes, made from what was read there, and then what stands behind it.
 -- Assumes nothing.
-use mathlib.Core.Path.{_≡_, refl, sym, ap, _∙_, subst}
+use mathlib.Core.Path.{_≡_, refl, sym, ap, _∙_}
 use mathlib.Core.List.{List, [], _∷_, _++_}
 use mathlib.Core.Bool.{Bool, true, false}
-use Prim.Native.Nat.{ℕ, _+_, _^_, _≤_, _<_}
-use native.Mathlib.Nat.{add-zero, add-assoc}
+use Prim.Native.Nat.{ℕ, _+_, _≤_, _<_}
+use native.Mathlib.Nat.{add-zero}
 use native.Mathlib.Omega.{arith}
 use lib.ListN.{length, getD, drop}
 use lib.Dec.{eqb}
 use borrow.Author.Tests.{eqb-true, eqb-false}
 use Rattle.wire.specs.Flags.{when, bit, isOne, and}
-use Rattle.wire.specs.Widths.{cut, read, pack, Bytes}
+use Rattle.wire.specs.Widths.{cut, pack, Bytes}
 use Rattle.wire.specs.Parts.{Part, _⦂_, bytesOf}
 use Rattle.wire.proofs.Cut.{fit-cut}
 use Rattle.wire.proofs.Parts.{bytesOf-append, found}
 use Rattle.s2xv2.specs.Table144b as T
-use Rattle.s2xv2.specs.Table144c.{modeOf, codeOf, hasSelector}
+use Rattle.s2xv2.specs.Table144c.{modeOf, hasSelector}
 use Rattle.s2xv2.specs.Options.{selected, someBoolIf, some8If, someSuperframeIf}
-use Rattle.s2xv2.specs.Read.{presentIn, only, streamEnd, scramblingEnd, timesliceEnd, hasSecond, bondSize, bondEnd, hasPlan, superframeSize, superframeEnd, endsOf, bodySize, planAt, superframeAt, byteAt, reserved6At, indexAt, reserved7At, countIf, firstIdAt, secondIdAt, recordAt, recordIn}
-use Rattle.s2xv2.specs.Encode.{topBit, coreValues, byteParts, scramblingParts, bondParts, nibbleOf, superframeValues, planParts, superframeEndValues, superframeParts, partsOf, encode}
+use Rattle.s2xv2.specs.Read.{presentIn, only, streamEnd, scramblingEnd, timesliceEnd, hasSecond, bondSize, bondEnd, hasPlan, superframeSize, superframeEnd, bodySize, planAt, superframeAt, byteAt, reserved6At, indexAt, reserved7At, countIf, firstIdAt, secondIdAt, recordAt, recordIn}
+use Rattle.s2xv2.specs.Encode.{topBit, coreValues, byteParts, scramblingParts, bondParts, nibbleOf, superframeValues, planParts, superframeParts, partsOf, encode}
 use Rattle.s2xv2.specs.declared.layout.Present.{Present}
 use Rattle.s2xv2.specs.declared.superframe.OptionSuperframe.the-variants as OS
 use Rattle.s2xv2.proofs.Fields.{code-mode}

@@ -2,12 +2,12 @@
 -- refused. Each theorem has its sentence above it; the files beside this one have the steps.
 -- Assumes nothing.
 use mathlib.Core.Logic.{_↔_}
-use mathlib.Core.Path.{_≡_, refl, sym, ap, _∙_}
+use mathlib.Core.Path.{_≡_, sym, ap, _∙_}
 use mathlib.Core.List.{List, [], _∷_}
 use mathlib.Core.Bool.{Bool, true, false}
 use Prim.Native.Nat.{ℕ, _+_, _≤_, _<_}
 use native.Mathlib.Omega.{arith}
-use lib.ListN.{length, drop, getD, length-drop}
+use lib.ListN.{length, drop}
 use Rattle.wire.specs.Bits.{bits}
 use Rattle.wire.specs.Widths.{Bytes}
 use Rattle.wire.specs.Parts.{sizes}
@@ -22,13 +22,13 @@ use Rattle.s2xv2.specs.Carried.{carried}
 use Rattle.s2xv2.specs.Held.{Held}
 use Rattle.s2xv2.specs.declared.record.S2Xv2SatelliteDeliverySystem.{S2Xv2SatelliteDeliverySystem}
 use Rattle.s2xv2.proofs.Sizes as sizes
-use Rattle.s2xv2.proofs.Reach.{told-accepted, accepted-reaches, reads-accepted}
+use Rattle.s2xv2.proofs.Reach.{told-accepted, accepted-reaches}
 use Rattle.s2xv2.proofs.Fields.{core-fields, reserved-1-bit, scrambling-fields, bond-fields, block-fields, reserved-4-nibble}
 use Rattle.s2xv2.proofs.Whole.{encode-length}
 use Rattle.s2xv2.proofs.Round as round
 use Rattle.s2xv2.proofs.Back as back
 use Rattle.s2xv2.proofs.Domain.{read-consistent, read-writable, read-held, read-carried}
-use Rattle.s2xv2.proofs.Written.{Writable, accepted-length, accepted-writable, told-room, told-field, told-written}
+use Rattle.s2xv2.proofs.Written.{accepted-length, accepted-writable, told-room, told-field, told-written}
 
 -- ---- reading
 

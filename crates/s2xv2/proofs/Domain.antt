@@ -1,35 +1,32 @@
 -- What was read can be written: neither list finds anything in it, its numbers are within their types, and the wire carries all of it.
 -- Assumes nothing.
-use mathlib.Core.Path.{_≡_, refl, sym, ap, _∙_}
+use mathlib.Core.Path.{_≡_, refl}
 use mathlib.Core.List.{List, [], _∷_}
 use mathlib.Core.Bool.{Bool, true, false}
-use Prim.Native.Nat.{ℕ, suc, _+_, _^_, _≤_, _<_}
+use Prim.Native.Nat.{ℕ, _+_, _^_, _≤_, _<_}
 use native.Mathlib.Omega.{arith}
-use lib.ListN.{length, getD}
-use lib.Dec.{eqb, ltb, leb}
+use lib.Dec.{eqb, ltb}
 use lib.Pow.{pow-pos}
-use borrow.Author.Tests.{le-ltb, lt-leb, eqb-true, eqb-false}
-use Rattle.wire.specs.Flags.{when, bit, isOne, and, not, differ}
+use borrow.Author.Tests.{le-ltb, lt-leb, eqb-false}
+use Rattle.wire.specs.Flags.{when, isOne, and, not, differ}
 use Rattle.wire.specs.Bits.{bits}
-use Rattle.wire.specs.Widths.{cut, read, Fit, Bytes}
+use Rattle.wire.specs.Widths.{Bytes}
 use Rattle.wire.proofs.Cut.{fit-cut}
 use Rattle.s2xv2.specs.Table144b as T
-use Rattle.s2xv2.specs.Table144c.{modeOf, codeOf, hasSelector, hasTimeslice, hasSuperframe}
+use Rattle.s2xv2.specs.Table144c.{modeOf, hasSelector}
 use Rattle.s2xv2.specs.Options.{isSomeBool, isSome8, isSome32, isSomeSuperframe, selected, orZero8, orZero32, someBoolIf, some8If, some32If, someSuperframeIf}
-use Rattle.s2xv2.specs.Read.{presentIn, only, streamEnd, scramblingEnd, timesliceEnd, hasSecond, bondEnd, hasPlan, endsOf, planAt, superframeAt, byteAt, reserved6At, indexAt, reserved7At, countIf, firstIdAt, secondIdAt, recordAt, recordIn}
-use Rattle.s2xv2.specs.Encode.{lessOne, nibbleOf}
+use Rattle.s2xv2.specs.Read.{presentIn, only, streamEnd, scramblingEnd, timesliceEnd, hasSecond, bondEnd, hasPlan, superframeAt, countIf, recordAt, recordIn}
+use Rattle.s2xv2.specs.Encode.{lessOne}
 use Rattle.s2xv2.specs.ListA.{misnamed, inSuperframe, listA, inconsistency}
 use Rattle.s2xv2.specs.ListB.{wide, superframeB, listB, unwritable}
 use Rattle.s2xv2.specs.Carried.{carriedSuperframe, carriedId, carried}
-use Rattle.s2xv2.specs.Held.{HeldBlock, HeldSuperframe, Held}
+use Rattle.s2xv2.specs.Held.{HeldSuperframe, Held}
 use Rattle.s2xv2.specs.declared.layout.Present.{Present}
 use Rattle.s2xv2.specs.declared.superframe.S2Xv2Superframe.{S2Xv2Superframe}
-use Rattle.s2xv2.specs.declared.superframe.OptionSuperframe.{OptionSuperframe}
-use Rattle.s2xv2.specs.declared.superframe.OptionSuperframe.the-variants as OS
 use Rattle.s2xv2.specs.declared.mode.S2Xv2Mode.the-variants as M
 use Rattle.s2xv2.proofs.Fields.{code-mode}
 use Rattle.s2xv2.proofs.Lists.{Clear, clear-first}
-use Rattle.s2xv2.proofs.Back.{selected-back, nibble-back}
+use Rattle.s2xv2.proofs.Back.{nibble-back}
 
 -- ---- tests that fail
 

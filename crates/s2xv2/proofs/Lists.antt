@@ -4,12 +4,12 @@
 use mathlib.Core.Path.{_≡_, refl, sym, ap, _∙_}
 use mathlib.Core.List.{List, [], _∷_, _++_}
 use mathlib.Core.Bool.{Bool, true, false}
-use Prim.Native.Nat.{ℕ, zero, suc, _+_, _^_, _≤_, _<_}
+use Prim.Native.Nat.{ℕ, zero, suc, _+_, _^_, _<_}
 use native.Mathlib.Omega.{arith}
 use native.Mathlib.Nat.{add-zero}
 use lib.ListN.{length, getD}
-use lib.Dec.{eqb, ltb, leb}
-use borrow.Author.Tests.{ltb-false, leb-false, eqb-true, eqb-false, ne-eqb}
+use lib.Dec.{eqb, ltb}
+use borrow.Author.Tests.{ltb-false, leb-false, ne-eqb}
 use Rattle.wire.specs.Flags.{when, bit, and, not, differ}
 use Rattle.wire.specs.Widths.{Fit}
 use Rattle.wire.specs.Parts.{_⦂_, AllFit}
@@ -17,10 +17,10 @@ use Rattle.wire.proofs.Parts.{fit-append}
 use Rattle.s2xv2.specs.Table144b as T
 use Rattle.s2xv2.specs.Table144c.{modeOf, codeOf, hasSelector, hasTimeslice, hasSuperframe}
 use Rattle.s2xv2.specs.Options.{isSomeBool, isSome8, isSome32, isSomeSuperframe, selected, orZero8, orZero32}
-use Rattle.s2xv2.specs.Encode.{topBit, coreValues, byteParts, scramblingParts, lessOne, idParts, bondParts, nibbleOf, superframeValues, superframeEndValues, blockParts, planParts, superframeParts, streamOf, scramblingOf, timesliceOf, bondOf, superframeOf, partsOf}
-use Rattle.s2xv2.specs.ListA.{firstFrom, misnamed, inSuperframe, listA, inconsistency}
-use Rattle.s2xv2.specs.ListB.{wide, superframeB, listB, unwritable}
-use Rattle.s2xv2.specs.Held.{HeldBlock, HeldSuperframe, Held}
+use Rattle.s2xv2.specs.Encode.{topBit, coreValues, byteParts, scramblingParts, lessOne, bondParts, superframeEndValues, planParts, superframeParts, streamOf, scramblingOf, timesliceOf, bondOf, superframeOf, partsOf}
+use Rattle.s2xv2.specs.ListA.{firstFrom, misnamed, inSuperframe, listA}
+use Rattle.s2xv2.specs.ListB.{wide, superframeB, listB}
+use Rattle.s2xv2.specs.Held.{HeldSuperframe, Held}
 use Rattle.s2xv2.specs.declared.record.S2Xv2SatelliteDeliverySystem.{S2Xv2SatelliteDeliverySystem}
 use Rattle.s2xv2.specs.declared.superframe.S2Xv2Superframe.{S2Xv2Superframe}
 use Rattle.s2xv2.specs.declared.superframe.OptionSuperframe.{OptionSuperframe}
@@ -32,7 +32,6 @@ use Rattle.s2xv2.specs.declared.option.OptionBool.the-variants as OB
 use Rattle.s2xv2.specs.declared.option.OptionU8.{OptionU8}
 use Rattle.s2xv2.specs.declared.option.OptionU8.the-variants as O8
 use Rattle.s2xv2.specs.declared.option.OptionU32.{OptionU32}
-use Rattle.s2xv2.specs.declared.option.OptionU32.the-variants as O32
 
 -- ---- the first place
 

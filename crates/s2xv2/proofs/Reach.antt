@@ -4,20 +4,16 @@
 use mathlib.Core.Path.{_≡_, refl, sym, ap, _∙_}
 use mathlib.Core.List.{List, [], _∷_}
 use mathlib.Core.Bool.{Bool, true, false}
-use Prim.Native.Nat.{ℕ, _+_, _≤_, _<_}
+use Prim.Native.Nat.{ℕ, _≤_, _<_}
 use native.Mathlib.Omega.{arith}
-use native.Mathlib.Nat.{le-refl}
 use lib.ListN.{length, drop, getD}
 use lib.Dec.{ltb, eqb}
 use borrow.Author.Tests.{lt-ltb, le-ltb, ltb-true, ltb-false, eq-eqb}
-use Rattle.wire.specs.Flags.{when, isOne, and}
-use Rattle.s2xv2.specs.Table144c.{modeOf, hasSelector, hasTimeslice, hasSuperframe}
+use Rattle.wire.specs.Flags.{when}
 use Rattle.s2xv2.specs.Answer.{numbers, saturated}
 use Rattle.s2xv2.specs.Default.{defaultRecord}
-use Rattle.s2xv2.specs.Read.{only, presentIn, hasSecond, bondSize, bondEnd, hasPlan, superframeSize, planSize, superframeEnd, timesliceEnd, endsOf, bodySize, Need, needs, numberOf, shortTold, readTold, Reading, readOf, recordIn, tailOf}
+use Rattle.s2xv2.specs.Read.{only, presentIn, hasSecond, bondSize, bondEnd, hasPlan, superframeSize, planSize, superframeEnd, timesliceEnd, endsOf, bodySize, Need, needs, numberOf, shortTold, readTold, readOf, recordIn, tailOf}
 use Rattle.s2xv2.specs.declared.layout.Present.{Present}
-use Rattle.s2xv2.specs.declared.mode.S2Xv2Mode.{S2Xv2Mode}
-use Rattle.s2xv2.specs.declared.mode.S2Xv2Mode.the-variants as M
 use Rattle.s2xv2.specs.declared.answer.Refusal.{Refusal}
 use Rattle.s2xv2.specs.declared.answer.Refusal.the-variants as R
 

@@ -4,19 +4,19 @@
 use mathlib.Core.Path.{_≡_, refl, sym, ap, ap₂, _∙_}
 use mathlib.Core.List.{List, [], _∷_, _++_}
 use mathlib.Core.Bool.{Bool, true, false}
-use Prim.Native.Nat.{ℕ, zero, suc, _+_, _≤_, _<_}
-use native.Mathlib.Nat.{add-zero, zero-add, add-assoc}
+use Prim.Native.Nat.{ℕ, zero, suc, _+_, _≤_}
+use native.Mathlib.Nat.{zero-add, add-assoc}
 use native.Mathlib.Omega.{arith}
-use lib.ListN.{length, getD, drop}
+use lib.ListN.{getD, drop}
 use lib.Dec.{eqb}
 use Rattle.wire.specs.Flags.{when, bit, isOne, and}
-use Rattle.wire.specs.Widths.{size, cut, give, pack, Fit, Bytes}
+use Rattle.wire.specs.Widths.{cut, pack, Fit, Bytes}
 use Rattle.wire.specs.Parts.{Part, _⦂_, bytesOf, sizes, AllFit}
 use Rattle.wire.proofs.Parts.{bytesOf-append, sizes-append, fit-left, fit-right, bytes-bytesOf, Stands, Found, find, after}
 use Rattle.s2xv2.specs.Table144b as T
-use Rattle.s2xv2.specs.Options.{isSomeBool, isSome8, isSome32, isSomeSuperframe, selected, orZero8, someBoolIf, some8If, some32If, someSuperframeIf}
+use Rattle.s2xv2.specs.Options.{isSomeBool, isSome8, isSome32, isSomeSuperframe, selected, someBoolIf, some8If, someSuperframeIf}
 use Rattle.s2xv2.specs.Read.{presentFrom, presentIn, only, streamEnd, scramblingEnd, timesliceEnd, hasSecond, bondSize, bondEnd, hasPlan, superframeSize, superframeEnd, endsOf, bodySize, superframeFrom, superframeAt, byteAt, reserved6At, indexAt, reserved7At, countIf, firstIdAt, secondIdAt, recordFrom, recordAt, recordIn, readTold, Reading, readOf, tailOf}
-use Rattle.s2xv2.specs.Encode.{topBit, coreValues, byteParts, scramblingParts, idParts, bondParts, nibbleOf, superframeValues, planParts, superframeEndValues, superframeParts, streamOf, scramblingOf, timesliceOf, bondOf, superframeOf, partsOf, encode, encodedLength}
+use Rattle.s2xv2.specs.Encode.{topBit, coreValues, byteParts, scramblingParts, bondParts, nibbleOf, superframeValues, planParts, superframeEndValues, superframeParts, streamOf, scramblingOf, timesliceOf, bondOf, superframeOf, partsOf, encode, encodedLength}
 use Rattle.s2xv2.specs.Carried.{carriedBlock, carriedSuperframe, carriedId, carried}
 use Rattle.s2xv2.specs.declared.layout.Present.{Present}
 use Rattle.s2xv2.specs.declared.layout.Ends.{Ends}

@@ -2,7 +2,7 @@
 -- index and a superframe block.
 -- Assumes nothing.
 use mathlib.Core.Logic.{_↔_}
-use mathlib.Core.Path.{_≡_, refl, sym, ap, _∙_}
+use mathlib.Core.Path.{_≡_, refl, ap}
 use mathlib.Core.List.{List, [], _∷_, _++_}
 use mathlib.Core.Bool.{Bool, true, false}
 use Prim.Native.Nat.{ℕ, _+_, _≤_}
@@ -12,7 +12,7 @@ use Rattle.wire.specs.Flags.{isOne, and}
 use Rattle.wire.specs.Widths.{cut}
 use Rattle.s2xv2.specs.Table144b as T
 use Rattle.s2xv2.specs.Table144c.{modeOf, hasSelector, hasTimeslice, hasSuperframe}
-use Rattle.s2xv2.specs.Read.{only, presentIn, bondSize, superframeSize, hasSecond, hasPlan, timesliceEnd, bondEnd, superframeEnd, bodySize, numberOf, readTold}
+use Rattle.s2xv2.specs.Read.{only, presentIn, bondSize, superframeSize, hasSecond, hasPlan, timesliceEnd, bondEnd, bodySize, numberOf, readTold}
 use Rattle.s2xv2.specs.declared.mode.S2Xv2Mode.{S2Xv2Mode}
 use Rattle.s2xv2.specs.declared.mode.S2Xv2Mode.the-variants as M
 use Rattle.s2xv2.proofs.Reach.{told-accepted, accepted-reaches}

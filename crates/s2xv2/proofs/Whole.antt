@@ -7,7 +7,7 @@ use Prim.Native.Nat.{ℕ, zero, suc, _+_, _*_}
 use native.Mathlib.Omega.{arith}
 use lib.ListN.{length}
 use lib.Dec.{eqb}
-use Rattle.wire.specs.Parts.{Part, sizes}
+use Rattle.wire.specs.Parts.{sizes}
 use Rattle.wire.proofs.Parts.{Whole, whole-append, sizes-append, length-bytesOf}
 use Rattle.s2xv2.specs.Options.{isSome8, selected}
 use Rattle.s2xv2.specs.Read.{only}

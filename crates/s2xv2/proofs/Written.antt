@@ -1,6 +1,5 @@
 -- Laws of the writer's answer and of the buffer that it leaves: in which order a record is refused, and that it is refused by nothing else.
 -- Assumes nothing.
-use mathlib.Core.Logic.{_↔_}
 use mathlib.Core.Path.{_≡_, refl, sym, ap, _∙_}
 use mathlib.Core.List.{List, [], _∷_, _++_}
 use mathlib.Core.Bool.{Bool, true, false}
@@ -9,7 +8,6 @@ use native.Mathlib.Omega.{arith}
 use lib.ListN.{length, getD, drop}
 use lib.Dec.{ltb}
 use borrow.Author.Tests.{lt-ltb, le-ltb, ltb-true, ltb-false}
-use Rattle.wire.specs.Flags.{when}
 use Rattle.s2xv2.specs.Answer.{numbers, saturated}
 use Rattle.s2xv2.specs.Read.{numberOf}
 use Rattle.s2xv2.specs.Encode.{encode, encodedLength}

@@ -1,6 +1,6 @@
 -- What the types of a record's fields say of it: `Held`, for each field whose type is as wide as its place on the wire. Every record that
 -- a program can make is held. Assumes nothing.
-use Prim.Native.Nat.{ℕ, _^_, _<_}
+use Prim.Native.Nat.{_^_, _<_}
 use lib.ListN.{getD}
 use Rattle.s2xv2.specs.Options.{orZero8, orZero32}
 use Rattle.s2xv2.specs.declared.record.S2Xv2SatelliteDeliverySystem.{S2Xv2SatelliteDeliverySystem}

@@ -1,6 +1,6 @@
 -- List A of document 01: a record that contradicts itself. `listA` has its tests in their order (`partsA`, then `superframeA`), `firstOf`
 -- says which is the first that holds, and `inconsistency` is that place, or 0 for a consistent record. Assumes nothing.
-use Prim.Native.Nat.{ℕ, zero, suc, _+_}
+use Prim.Native.Nat.{ℕ, suc}
 use mathlib.Core.List.{List, [], _∷_, _++_}
 use mathlib.Core.Bool.{Bool, false}
 use lib.Dec.{eqb, ltb}

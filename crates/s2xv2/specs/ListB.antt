@@ -3,7 +3,7 @@
 -- more than w bits. Assumes nothing.
 use Prim.Native.Nat.{ℕ, _^_}
 use mathlib.Core.List.{List, [], _∷_, _++_}
-use mathlib.Core.Bool.{Bool, false}
+use mathlib.Core.Bool.{Bool}
 use lib.Dec.{eqb, leb}
 use Rattle.wire.specs.Flags.{and, not}
 use Rattle.s2xv2.specs.Table144c.{codeOf}

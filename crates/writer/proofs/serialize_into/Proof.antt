@@ -1,7 +1,6 @@
 -- `writer::serialize_into` meets its contract: the laws of the answer say in which order a record is refused, and what it leaves.
 -- Assumes nothing.
 use mathlib.Core.Path.{_≡_, sym, ap, _∙_}
-use Prim.Native.Nat.{ℕ}
 use native.Mathlib.Omega.{arith}
 use lib.ListN.{length}
 use denote.Ref.{now}
@@ -13,7 +12,7 @@ use Rattle.s2xv2.specs.Write.{writeTold}
 use Rattle.s2xv2.specs.declared.answer.Refusal.the-variants.{Room, Field}
 use Rattle.s2xv2.proofs.Reach.{refused}
 use Rattle.s2xv2.proofs.Lists.{first-clear}
-use Rattle.s2xv2.proofs.Written.{Measured, measured, refused-alike, told-room, told-field, told-written, written-refused, written-accepted}
+use Rattle.s2xv2.proofs.Written.{measured, refused-alike, told-room, told-field, told-written, written-refused, written-accepted}
 use borrow.Author.Needs.{needs}
 use Rattle.writer.proofs.serialize_into.Statement.{statement}
 use Rattle.writer.proofs.serialize_into.Tie as tie

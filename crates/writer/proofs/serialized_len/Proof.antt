@@ -1,10 +1,8 @@
 -- `writer::serialized_len` meets its contract: the tests pick the case of the definition.
 -- Assumes nothing.
-use mathlib.Core.Path.{_≡_, sym, ap, _∙_}
-use Prim.Native.Nat.{ℕ, _+_, _<_}
+use mathlib.Core.Path.{sym, _∙_}
+use Prim.Native.Nat.{_<_}
 use native.Mathlib.Omega.{arith}
-use lib.ListN.{length}
-use denote.Ref.{now}
 use borrow.Author.Tests.{lt-ltb, le-ltb}
 use Rattle.s2xv2.specs.Encode.{encodedLength}
 use Rattle.s2xv2.specs.Length.{lengthTold}

@@ -1,6 +1,5 @@
 -- `lists::list_b::superframe_place` meets its contract: the arm that was taken is the case of the definition.
 -- Assumes nothing.
-use mathlib.Core.Path.{sym, _∙_}
 use borrow.Author.Needs.{needs}
 use Rattle.lists.proofs.list_b.superframe_place.Statement.{statement}
 use Rattle.lists.proofs.list_b.superframe_place.Tie as tie

@@ -1,7 +1,6 @@
 -- `reader::parts::byte_at` meets its contract: the test picks the case, and says that the byte is there.
 -- Assumes nothing.
 use native.Mathlib.Omega.{arith}
-use borrow.Author.Needs.{needs}
 use Rattle.reader.proofs.parts.byte_at.Statement.{statement}
 use Rattle.reader.proofs.parts.byte_at.Tie as tie
 

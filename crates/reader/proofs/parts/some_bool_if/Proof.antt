@@ -1,6 +1,5 @@
 -- `reader::parts::some_bool_if` meets its contract: the test picks the case.
 -- Assumes nothing.
-use borrow.Author.Needs.{needs}
 use Rattle.reader.proofs.parts.some_bool_if.Statement.{statement}
 use Rattle.reader.proofs.parts.some_bool_if.Tie as tie
 

@@ -1,6 +1,5 @@
 -- `reader::parts::superframe_at` meets its contract: the test picks the case.
 -- Assumes nothing.
-use borrow.Author.Needs.{needs}
 use Rattle.reader.proofs.parts.superframe_at.Statement.{statement}
 use Rattle.reader.proofs.parts.superframe_at.Tie as tie
 

@@ -1,6 +1,5 @@
 -- `writer::length::superframe_len` meets its contract: the arm that was taken is the case of the definition.
 -- Assumes nothing.
-use mathlib.Core.Path.{_≡_, _∙_}
 use mathlib.Core.Bool.{Bool, true, false}
 use Prim.Native.Nat.{_≤_}
 use native.Mathlib.Omega.{arith}

@@ -1,16 +1,13 @@
 -- `writer::parts::put_block` meets its contract: three runs of stores that meet are one, and their bytes are those of the parts of the block.
 -- Assumes nothing.
-use mathlib.Core.Path.{_≡_, refl, sym, ap, _∙_}
+use mathlib.Core.Path.{refl, sym, ap, _∙_}
 use mathlib.Core.List.{List, [], _∷_, _++_}
-use Prim.Native.Nat.{ℕ, _+_, _*_, _<_}
+use Prim.Native.Nat.{ℕ}
 use native.Mathlib.Omega.{arith}
-use native.Mathlib.Nat.{add-zero, add-assoc}
-use lib.ListN.{length, getD}
 use denote.Ref.{now}
 use Rattle.wire.specs.Store.{stored}
-use Rattle.wire.specs.Widths.{be}
 use Rattle.wire.proofs.Stores.{run}
-use Rattle.wire.specs.Parts.{Part, sizes, _⦂_}
+use Rattle.wire.specs.Parts.{Part, _⦂_}
 use Rattle.wire.proofs.Parts.{sizes-append}
 use Rattle.s2xv2.specs.Table144b as T
 use Rattle.s2xv2.specs.Encode.{planParts, superframeEndValues}
@@ -18,7 +15,7 @@ use Rattle.writer.specs.Bytes.{blockBytes}
 use Rattle.s2xv2.specs.declared.superframe.S2Xv2Superframe.{S2Xv2Superframe}
 use Rattle.s2xv2.proofs.Whole.{whole-plan}
 use Rattle.s2xv2.proofs.Lists.{narrow}
-use Rattle.writer.proofs.Laws.{alone, length-alone, alone-append}
+use Rattle.writer.proofs.Laws.{length-alone, alone-append}
 use borrow.Author.Needs.{needs}
 use Rattle.writer.proofs.parts.put_block.Statement.{statement}
 use Rattle.writer.proofs.parts.put_block.Tie as tie

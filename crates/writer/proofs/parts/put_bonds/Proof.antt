@@ -1,16 +1,14 @@
 -- `writer::parts::put_bonds` meets its contract: list B passes one id or two, and the runs of stores that meet are one.
 -- Assumes nothing.
-use mathlib.Core.Path.{_≡_, refl, sym, ap, _∙_}
-use mathlib.Core.List.{List, [], _∷_, _++_}
-use Prim.Native.Nat.{ℕ, _+_, _*_, _<_}
+use mathlib.Core.Path.{refl, sym}
+use Prim.Native.Nat.{_+_}
 use native.Mathlib.Omega.{arith}
 use native.Mathlib.Nat.{add-zero, add-assoc}
-use lib.ListN.{length, getD}
-use denote.Ref.{now}
+use lib.ListN.{getD}
 use Rattle.wire.specs.Store.{stored}
 use Rattle.wire.specs.Widths.{be}
 use Rattle.wire.proofs.Stores.{run}
-use Rattle.s2xv2.specs.Encode.{lessOne, bondParts}
+use Rattle.s2xv2.specs.Encode.{bondParts}
 use Rattle.s2xv2.proofs.Lists.{narrow-if}
 use Rattle.writer.proofs.Laws.{one-bond, bond-room}
 use borrow.Author.Needs.{needs}

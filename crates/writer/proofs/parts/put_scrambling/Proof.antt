@@ -1,7 +1,6 @@
 -- `writer::parts::put_scrambling` meets its contract, in each arm.
 -- Assumes nothing.
 use mathlib.Core.Path.{_≡_, refl, sym, ap, _∙_}
-use mathlib.Core.List.{List, [], _∷_, _++_}
 use Prim.Native.Nat.{ℕ, _+_, _*_}
 use native.Mathlib.Omega.{arith}
 use native.Mathlib.Nat.{add-zero}
@@ -9,7 +8,7 @@ use denote.Ref.{now}
 use Rattle.wire.specs.Store.{stored}
 use Rattle.wire.specs.Widths.{be}
 use Rattle.s2xv2.specs.Options.{orZero32}
-use Rattle.s2xv2.proofs.Lists.{narrow, narrow-if}
+use Rattle.s2xv2.proofs.Lists.{narrow-if}
 use Rattle.s2xv2.specs.Encode.{scramblingParts}
 use borrow.Author.Needs.{needs}
 use Rattle.writer.proofs.parts.put_scrambling.Statement.{statement}

@@ -1,13 +1,8 @@
 -- `writer::parts::put_superframe` meets its contract: the arm that was taken is the case of the definition.
 -- Assumes nothing.
-use mathlib.Core.Path.{_≡_, refl, sym, ap, _∙_}
-use mathlib.Core.List.{List, [], _∷_, _++_}
-use Prim.Native.Nat.{ℕ, _+_, _*_}
-use native.Mathlib.Omega.{arith}
+use mathlib.Core.Path.{refl, sym}
 use native.Mathlib.Nat.{add-zero}
-use denote.Ref.{now}
 use Rattle.wire.specs.Store.{stored}
-use Rattle.wire.specs.Widths.{be}
 use Rattle.s2xv2.specs.Encode.{superframeParts}
 use borrow.Author.Needs.{needs}
 use Rattle.writer.proofs.parts.put_superframe.Statement.{statement}
