@@ -3,7 +3,6 @@
 use mathlib.Core.Path.{sym, _∙_}
 use Rattle.s2xv2.specs.ListA.{partsA, superframeA, inconsistency}
 use Rattle.s2xv2.proofs.Lists.{clear-append}
-use Rattle.s2xv2.specs.ListA.{inconsistency}
 use borrow.Author.Needs.{needs}
 use Rattle.lists.proofs.list_a.inconsistency.Statement.{statement}
 use Rattle.lists.proofs.list_a.inconsistency.Tie as tie

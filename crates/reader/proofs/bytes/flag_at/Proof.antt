@@ -5,7 +5,6 @@ use mathlib.Core.Path.{sym, ap}
 use native.Mathlib.Nat.{zero-div}
 use lib.ListN.{List·getD-eq-default}
 use Rattle.wire.specs.Flags.{isOne}
-use Prim.Native.Nat.{ℕ}
 use borrow.Author.Needs.{needs}
 use Rattle.reader.proofs.bytes.flag_at.Statement.{statement}
 use Rattle.reader.proofs.bytes.flag_at.Tie as tie
