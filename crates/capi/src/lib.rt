@@ -1,0 +1,5 @@
+// The library for C and Rust: every function here takes apart what crosses, calls a proved function, and answers numbers.
+pub mod body;
+mod input;
+mod output;
+pub mod types;
