@@ -1,0 +1,103 @@
+/* Reads, measures and writes the body of an S2Xv2 satellite delivery system descriptor (ETSI EN 300 468, 6.4.6.5.3), from C11 or C++.
+
+   Every call takes any bytes and any record, and refuses the bad ones by number; none traps, and a refused call stores nothing. A pointer whose length is 0 may be
+   null. Link with libcapi.a, which `rt staticlib capi` writes for x86-64. */
+#ifndef S2XV2_H
+#define S2XV2_H
+
+#include <stddef.h>
+#include <stdint.h>
+
+#ifdef __cplusplus
+extern "C" {
+#endif
+
+/* The number of an answer. What it tells stands in `first`, `second` and `third`, with 0 where it tells less. */
+enum {
+    S2XV2_ACCEPTED = 0,     /* first: the result */
+    S2XV2_SHORT = 1,        /* first: the place of the missing part, second: where it ends, third: the body's length */
+    S2XV2_LONG = 2,         /* first: the length, 65,535 for all above that */
+    S2XV2_INCONSISTENT = 3, /* first: the first place of list A that holds */
+    S2XV2_FIELD = 4,        /* first: the first place of list B that holds */
+    S2XV2_ROOM = 5,         /* first: the bytes that are needed, second: those that are there */
+    S2XV2_FOREIGN = 100     /* a record that none of the library's could be: a flag above 1, or a code of 6 and more without mode_is_reserved */
+};
+
+typedef struct {
+    size_t number;
+    size_t first;
+    size_t second;
+    size_t third;
+} S2xv2Answer;
+
+/* A flag is a byte, 0 or 1. A number that may be absent has a flag `has_` beside it, and is 0 where it is absent. */
+typedef struct {
+    uint32_t reference_scrambling_index;
+    uint32_t payload_scrambling_index;
+    uint32_t beamhopping_time_plan_id;
+    uint8_t sosf_wh_sequence_number;
+    uint8_t sffi_selector;
+    uint8_t beam_hopping_time_plan_selector;
+    uint8_t reserved_zero_future_use_2;
+    uint8_t has_sffi;
+    uint8_t sffi;
+    uint8_t reserved_zero_future_use_4;
+    uint8_t has_beamhopping_time_plan_id;
+    uint8_t superframe_pilots_wh_sequence_number;
+    uint8_t postamble_pli;
+} S2xv2Superframe;
+
+/* `s2xv2_mode` is the code; `mode_is_reserved` tells the mode `Reserved(code)` from those that have a name. */
+typedef struct {
+    uint32_t delivery_system_id;
+    uint32_t satellite_id;
+    uint32_t frequency;
+    uint32_t symbol_rate;
+    uint32_t scrambling_sequence_index;
+    uint32_t secondary_delivery_system_ids[2];
+    S2xv2Superframe superframe;
+    uint8_t mode_is_reserved;
+    uint8_t s2xv2_mode;
+    uint8_t multiple_input_stream_flag;
+    uint8_t roll_off;
+    uint8_t reserved_zero_future_use_2;
+    uint8_t ncr_reference;
+    uint8_t ncr_version;
+    uint8_t channel_bond;
+    uint8_t polarization;
+    uint8_t has_scrambling_sequence_selector;
+    uint8_t scrambling_sequence_selector;
+    uint8_t reserved_zero_future_use_1;
+    uint8_t ts_gs_s2x_mode;
+    uint8_t receiver_profiles;
+    uint8_t has_input_stream_identifier;
+    uint8_t input_stream_identifier;
+    uint8_t reserved_zero_future_use_6;
+    uint8_t has_scrambling_sequence_index;
+    uint8_t has_timeslice_number;
+    uint8_t timeslice_number;
+    uint8_t reserved_zero_future_use_7;
+    uint8_t num_channel_bonds;
+    uint8_t has_superframe;
+} S2xv2Record;
+
+typedef struct {
+    S2xv2Answer answer;
+    S2xv2Record body;
+} S2xv2Parsed;
+
+/* The record of a body. Accepted tells where the tail starts, which goes to the body's end. Refuses with 2 and 1, and shows a record of zeros then. */
+S2xv2Parsed s2xv2_parse(const uint8_t *body, size_t length);
+
+/* How many bytes a record takes with a tail. Accepted tells the length. Refuses with 100, 3 and 2. */
+S2xv2Answer s2xv2_serialized_len(S2xv2Record record, const uint8_t *tail, size_t tail_length);
+
+/* Writes a record and its tail to the start of a buffer, and keeps the bytes behind them. Accepted tells the length. Refuses with 100, 3, 2, 5 and 4, and stores
+   nothing then. */
+S2xv2Answer s2xv2_serialize_into(S2xv2Record record, const uint8_t *tail, size_t tail_length, uint8_t *buffer, size_t buffer_length);
+
+#ifdef __cplusplus
+}
+#endif
+
+#endif
