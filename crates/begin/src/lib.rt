@@ -21,7 +21,7 @@ pub struct Begun {
 }
 
 // What stands where there is no job.
-fn no_job() -> Job
+pub fn no_job() -> Job
     ensures { λ r. ⌜ r ≡ noJob ⌝ }
 {
     Job {

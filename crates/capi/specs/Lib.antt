@@ -1,2 +1,2 @@
-pub mod Output
-pub mod Input
+pub mod Part
+pub mod Job

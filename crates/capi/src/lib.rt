@@ -1,5 +1,4 @@
 // The library for C and Rust: every function here takes apart what crosses, calls a proved function, and answers numbers.
 pub mod body;
-mod input;
-mod output;
-pub mod types;
+pub mod jobs;
+pub mod slots;

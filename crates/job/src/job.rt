@@ -4,7 +4,8 @@ ghost use lib.ListN.{length};
 ghost use Rattle.job.specs.Step.{stepSeen, stepOf, slotAfter};
 use crate::advance::advance;
 
-// A job is a value: whoever holds it may step it, keep it or drop it.
+// A job is a value: whoever holds it may step it, keep it or drop it. It crosses to C as it is.
+#[repr(C)]
 pub struct Job {
     // The descriptor to be stored, and 0 after it.
     pub staged: [u8; 257],

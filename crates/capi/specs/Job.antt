@@ -1,0 +1,17 @@
+-- What a step answers as it crosses: `advancedOut` all but the job, `steppedOut` with it, `numberIn` the number of its answer. Assumes nothing.
+use Prim.Native.Nat.{ℕ}
+use mathlib.Core.List.{List}
+use lib.ListN.{getD}
+use Rattle.wire.specs.Flags.{bit}
+use Rattle.job.specs.Step.{Steps}
+use Rattle.capi.specs.declared.jobs.FlatAdvanced.{FlatAdvanced}
+use Rattle.capi.specs.declared.jobs.FlatStepped.{FlatStepped}
+
+abbrev pub numberIn : List ℕ → ℕ
+numberIn told = getD told 0 0
+
+abbrev pub advancedOut : Steps → FlatAdvanced
+advancedOut s = record { stores = s .made; number = numberIn (s .told); done = bit (s .done) }
+
+abbrev pub steppedOut : Steps → FlatStepped
+steppedOut s = record { job = s .job; told = advancedOut s }

@@ -1,0 +1,90 @@
+// Beginning a job, and stepping it.
+ghost use mathlib.Core.Path.{_≡_};
+ghost use lib.ListN.{length};
+ghost use Rattle.wire.specs.Flags.{when};
+ghost use Rattle.flat.specs.Output.{answerOut};
+ghost use Rattle.flat.specs.Input.{recordIn, valid, foreign};
+ghost use Rattle.job.specs.Step.{stepTold, stepOf, slotAfter};
+ghost use Rattle.begin.specs.Begin.{noJob, beginOf};
+ghost use Rattle.capi.specs.Job.{numberIn, steppedOut};
+use flat::input::is_valid;
+use flat::input::record_in;
+use flat::output::answer_out;
+use flat::output::foreign;
+use flat::types::FlatAnswer;
+use flat::types::FlatRecord;
+use job::job::Job;
+use job::job::StepAnswer;
+use wire::field::bit_of;
+
+// The answer, and the job: if begin is refused, zeros.
+#[repr(C)]
+pub struct FlatBegun {
+    pub answer: FlatAnswer,
+    pub job: Job,
+}
+
+// What a step tells: how many stores it made, 0 or 8, and whether the job has none left, as a flag.
+#[repr(C)]
+pub struct FlatAdvanced {
+    pub stores: usize,
+    pub number: u8,
+    pub done: u8,
+}
+
+#[repr(C)]
+pub struct FlatStepped {
+    pub job: Job,
+    pub told: FlatAdvanced,
+}
+
+// `begin::begin` of the library. Refuses with 100 what no record could hold. Stores nothing.
+#[no_mangle]
+pub extern "C" fn s2xv2_begin(s: &[u8], r: FlatRecord, reserved_tail: &[u8]) -> FlatBegun
+    ensures answer { λ b. ⌜ b .answer ≡ when (valid r) (answerOut (beginOf (now (s .entry)) (recordIn r) (now («reserved_tail» .entry)) .told)) foreign ⌝ }
+    ensures job { λ b. ⌜ b .job ≡ when (valid r) (beginOf (now (s .entry)) (recordIn r) (now («reserved_tail» .entry)) .job) noJob ⌝ }
+{
+    if is_valid(r) {
+        let begun = begin::begin(s, record_in(r), reserved_tail);
+        let answer = begun.answer;
+        let job = begun.job;
+        FlatBegun {
+            answer: answer_out(answer),
+            job,
+        }
+    } else {
+        FlatBegun {
+            answer: foreign(),
+            job: begin::no_job(),
+        }
+    }
+}
+
+// The number of a step's answer.
+fn step_number(answer: StepAnswer) -> u8
+    ensures { λ r. ⌜ r ≡ numberIn (stepTold answer) ⌝ }
+{
+    match answer {
+        StepAnswer::Accepted => 0,
+        StepAnswer::OtherSize => 8,
+    }
+}
+
+// `Job::step` of the library.
+#[no_mangle]
+pub extern "C" fn s2xv2_step(j: Job, s: &mut [u8], allowance: usize) -> FlatStepped
+    ensures told { λ r. ⌜ r ≡ steppedOut (stepOf j (length (now (s .entry))) allowance) ⌝ }
+    ensures left { λ _. ⌜ now (s .exit) ≡ slotAfter j (now (s .entry)) allowance ⌝ }
+{
+    let stepped = j.step(s, allowance);
+    let answer = stepped.answer;
+    let job = stepped.job;
+    FlatStepped {
+        job,
+        told: FlatAdvanced {
+            stores: stepped.stores,
+            number: step_number(answer),
+            done: bit_of(stepped.done),
+        },
+    }
+}

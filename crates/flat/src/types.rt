@@ -1,0 +1,76 @@
+// What crosses to C and back. A flag is a byte, 0 or 1; a number that may be absent has a flag `has_` beside it, and is 0 where it is absent.
+
+// An answer: its number, and up to three numbers that it tells, 0 where it tells fewer.
+#[repr(C)]
+pub struct FlatAnswer {
+    pub number: usize,
+    pub first: usize,
+    pub second: usize,
+    pub third: usize,
+}
+
+#[repr(C)]
+pub struct FlatSuperframe {
+    pub reference_scrambling_index: u32,
+    pub payload_scrambling_index: u32,
+    pub beamhopping_time_plan_id: u32,
+    pub sosf_wh_sequence_number: u8,
+    pub sffi_selector: u8,
+    pub beam_hopping_time_plan_selector: u8,
+    pub reserved_zero_future_use_2: u8,
+    pub has_sffi: u8,
+    pub sffi: u8,
+    pub reserved_zero_future_use_4: u8,
+    pub has_beamhopping_time_plan_id: u8,
+    pub superframe_pilots_wh_sequence_number: u8,
+    pub postamble_pli: u8,
+}
+
+// A record. `mode_is_reserved` tells `Reserved(v)` from the modes that have a name; `s2xv2_mode` is the code in either case.
+#[repr(C)]
+pub struct FlatRecord {
+    pub delivery_system_id: u32,
+    pub satellite_id: u32,
+    pub frequency: u32,
+    pub symbol_rate: u32,
+    pub scrambling_sequence_index: u32,
+    pub secondary_delivery_system_ids: [u32; 2],
+    pub superframe: FlatSuperframe,
+    pub mode_is_reserved: u8,
+    pub s2xv2_mode: u8,
+    pub multiple_input_stream_flag: u8,
+    pub roll_off: u8,
+    pub reserved_zero_future_use_2: u8,
+    pub ncr_reference: u8,
+    pub ncr_version: u8,
+    pub channel_bond: u8,
+    pub polarization: u8,
+    pub has_scrambling_sequence_selector: u8,
+    pub scrambling_sequence_selector: u8,
+    pub reserved_zero_future_use_1: u8,
+    pub ts_gs_s2x_mode: u8,
+    pub receiver_profiles: u8,
+    pub has_input_stream_identifier: u8,
+    pub input_stream_identifier: u8,
+    pub reserved_zero_future_use_6: u8,
+    pub has_scrambling_sequence_index: u8,
+    pub has_timeslice_number: u8,
+    pub timeslice_number: u8,
+    pub reserved_zero_future_use_7: u8,
+    pub num_channel_bonds: u8,
+    pub has_superframe: u8,
+}
+
+// A body read: the answer, whose first number is where the tail starts if it is accepted, and the record.
+#[repr(C)]
+pub struct FlatParsed {
+    pub answer: FlatAnswer,
+    pub body: FlatRecord,
+}
+
+// A part of what was lent: where it starts, and how many bytes it has.
+#[repr(C)]
+pub struct FlatPart {
+    pub place: usize,
+    pub length: usize,
+}
