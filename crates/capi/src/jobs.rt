@@ -6,7 +6,8 @@ ghost use Rattle.flat.specs.Output.{answerOut};
 ghost use Rattle.flat.specs.Input.{recordIn, valid, foreign};
 ghost use Rattle.job.specs.Step.{stepTold, stepOf, slotAfter};
 ghost use Rattle.begin.specs.Begin.{noJob, beginOf};
-ghost use Rattle.capi.specs.Job.{numberIn, steppedOut};
+ghost use Rattle.job.specs.Job.{jobOf};
+ghost use Rattle.capi.specs.Job.{numberIn, advancedOut, steppedOut, movedOut};
 use flat::input::is_valid;
 use flat::input::record_in;
 use flat::output::answer_out;
@@ -86,5 +87,57 @@ pub extern "C" fn s2xv2_step(j: Job, s: &mut [u8], allowance: usize) -> FlatStep
             number: step_number(answer),
             done: bit_of(stepped.done),
         },
+    }
+}
+
+// What a step in place learns: what it tells, and how many stores the job has made in all.
+struct FlatMoved {
+    made: usize,
+    stores: usize,
+    number: u8,
+    done: u8,
+}
+
+// `job::advance::advance` of the library, which lends the staged bytes and takes the job's numbers beside them.
+fn advanced(
+    staged: &[u8; 257],
+    n: usize,
+    d: usize,
+    k: usize,
+    s: &mut [u8],
+    allowance: usize,
+) -> FlatMoved
+    ensures told { λ r. ⌜ r ≡ movedOut (stepOf (jobOf (now (staged .entry)) n d k) (length (now (s .entry))) allowance) ⌝ }
+    ensures left { λ _. ⌜ now (s .exit) ≡ slotAfter (jobOf (now (staged .entry)) n d k) (now (s .entry)) allowance ⌝ }
+{
+    let moved = job::advance::advance(staged, n, d, k, s, allowance);
+    let answer = moved.answer;
+    FlatMoved {
+        made: moved.made,
+        stores: moved.stores,
+        number: step_number(answer),
+        done: bit_of(moved.done),
+    }
+}
+
+// `Job::step` of the library for a job where it stands: its bytes are lent on, and the one number that a step changes is stored. A refused step stores
+// nothing and leaves the job as it was.
+#[no_mangle]
+pub extern "C" fn s2xv2_step_in_place(
+    job: &mut Job,
+    s: &mut [u8],
+    allowance: usize,
+) -> FlatAdvanced
+    ensures { λ r. ⌜ (r ≡ advancedOut (stepOf (now (job .entry)) (length (now (s .entry))) allowance)) × ((now (job .exit) ≡ stepOf (now (job .entry)) (length (now (s .entry))) allowance .job) × (now (s .exit) ≡ slotAfter (now (job .entry)) (now (s .entry)) allowance)) ⌝ }
+{
+    let n = job.slot_size;
+    let d = job.descriptor_size;
+    let k = job.stores_made;
+    let m = advanced(&job.staged, n, d, k, s, allowance);
+    job.stores_made = m.made;
+    FlatAdvanced {
+        stores: m.stores,
+        number: m.number,
+        done: m.done,
     }
 }

@@ -1,4 +1,4 @@
--- `onsite::step_on_site` meets its contract, by a walk of its code: the borrow of the job is opened, and its three numbers read; the staged bytes are taken out of the job's cell (`record-field-out`) and lent for a lifetime that is made for the call (`lends-shr`); the slot's borrow goes along at its own lifetime. After the call the lifetime is ended, the bytes come back (`lent-back`, `record-field-back`), the number made is stored in the cell, and the borrow closed at the new job. A struct's array field stands in memory at `map` of the identity over the list: `bytes-out` and `bytes-back` turn it by `map-id`.
+-- `capi::jobs::s2xv2_step_in_place` meets its contract, by a walk of its code: the borrow of the job is opened, and its three numbers read; the staged bytes are taken out of the job's cell (`record-field-out`) and lent for a lifetime that is made for the call (`lends-shr`); the slot's borrow goes along at its own lifetime. After the call the lifetime is ended, the bytes come back (`lent-back`, `record-field-back`), the number made is stored in the cell, and the borrow closed at the new job. A struct's array field stands in memory at `map` of the identity over the list: `bytes-out` and `bytes-back` turn it by `map-id`.
 -- Assumes nothing.
 use mathlib.Core.Path.{_≡_, refl, sym, ap, subst, _∙_}
 use Prim.Native.Nat.{ℕ, _<_, _^_, _+_}
@@ -48,25 +48,26 @@ use denote.Triple.Walked.{says, Stays, stay-ref, gave-slice, stay-none, walkOf, 
 use denote.Exit.{yes}
 use denote.Signature.{plain}
 use Rattle.job.specs.declared.job.Job.{Job}
-use Rattle.job.specs.declared.advance.Moved.{Moved}
+use Rattle.capi.specs.declared.jobs.FlatMoved.{FlatMoved}
 use Rattle.job.specs.Job.{withMade}
-use Rattle.job.specs.Step.{Steps, movedSeen, stepOf, slotAfter}
-use Rattle.in_place.specs.declared.Advanced.{Advanced}
-use Rattle.in_place.specs.Advanced.{tells}
-use Rattle.in_place.proofs.Advanced as Ad
-use Rattle.in_place.proofs.Advanced.Laws as Ad′
+use Rattle.job.specs.Step.{stepOf, slotAfter}
+use Rattle.capi.specs.declared.jobs.FlatAdvanced.{FlatAdvanced}
+use Rattle.capi.specs.Job.{movedOut}
+use Rattle.capi.proofs.Step.{step-keeps}
+use Rattle.capi.proofs.jobs.FlatAdvanced as Ad
+use Rattle.capi.proofs.jobs.FlatAdvanced.Laws as Ad′
 use Rattle.job.proofs.job.Job as T
 use Rattle.job.proofs.job.Job.Laws as T′
-use Rattle.job.proofs.advance.Moved as S
-use Rattle.job.proofs.advance.Moved.Laws as S′
-use Rattle.job.proofs.advance.advance as step′
-use Rattle.job.proofs.advance.advance.Symbol as step-def
-use Rattle.job.proofs.advance.advance.Symbol.{name as #job·advance·advance}
-use Rattle.job.proofs.advance.advance.Met as step-thm
-use Rattle.onsite.proofs.step_on_site.Key.{name as #onsite·step-on-site}
-use Rattle.onsite.proofs.step_on_site as place
-use Rattle.onsite.proofs.step_on_site.Statement as stated
-use Rattle.onsite.proofs.step_on_site.Code as code
+use Rattle.capi.proofs.jobs.FlatMoved as S
+use Rattle.capi.proofs.jobs.FlatMoved.Laws as S′
+use Rattle.capi.proofs.jobs.advanced as step′
+use Rattle.capi.proofs.jobs.advanced.Symbol as step-def
+use Rattle.capi.proofs.jobs.advanced.Symbol.{name as #capi·jobs·advanced}
+use Rattle.capi.proofs.jobs.advanced.Met as step-thm
+use Rattle.capi.proofs.jobs.s2xv2_step_in_place.Key.{name as #capi·jobs·s2xv2-step-in-place}
+use Rattle.capi.proofs.jobs.s2xv2_step_in_place as place
+use Rattle.capi.proofs.jobs.s2xv2_step_in_place.Statement as stated
+use Rattle.capi.proofs.jobs.s2xv2_step_in_place.Code as code
 
 abbrev stayed : Stays (place.ended .signature .params) (place.ended .kept)
 stayed = (stay-ref (0 ∷ []) tt (plain (λ _. T.the-row)), (gave-slice (1 ∷ []) tt (plain (λ _. u8)), (stay-none (λ _. usize) yes, tt)))
@@ -137,7 +138,7 @@ module _ {M : Type 1} (𝓤 : URA M) (H : Heap 𝓤) (A : Atoms 𝓤) (W : Given
   abbrev y : GName → RefT (List ℕ)
   y δ = record { ptr = (b, o + 0); name = δ; now = h .staged }
 
-  -- what `advance`'s triple binds outside: the bytes lent for the lifetime ν under the name δ; the slot's own lifetime, share and value
+  -- what the call's triple binds outside: the bytes lent for the lifetime ν under the name δ; the slot's own lifetime, share and value
   abbrev to-step : ℕ → GName → Step 𝓤 H A at-mem run .Ghost
   to-step ν δ = (((ν ∷ [], (κ′, tt)), (fullShare, (q′, tt)), tt, (y δ, (h .«slot_size», (h .«descriptor_size», (h .«stores_made», (x, (n, tt)))))), (vptr b (o + 0) ∷ [], (vint w64 (h .«slot_size») ∷ [], (vint w64 (h .«descriptor_size») ∷ [], (vint w64 (h .«stores_made») ∷ [], (s ∷ [], (vint w64 n ∷ [], tt))))))), tt)
 
@@ -151,37 +152,37 @@ module _ {M : Type 1} (𝓤 : URA M) (H : Heap 𝓤) (A : Atoms 𝓤) (W : Given
       owned ! usize (Is usize) (uint-makes 𝓤 H A W w64) (h .«stores_made») _ (refl, f .1 .1) $ fjoin ! $ owned ! usize (Is usize) (uint-makes 𝓤 H A W w64) (h .«descriptor_size») _ (refl, f .1 .0) $ fjoin ! $
       owned ! usize (Is usize) (uint-makes 𝓤 H A W w64) (h .«slot_size») _ (refl, f .0) $ fjoin ! $ move ! (2 ∷ 0 ∷ []) $ fjoin ! $ move ! (1 ∷ 0 ∷ []) $ join ! $ frame ! $ done !
 
-  -- the job with the number that `advance` told, and what is told on
-  abbrev h₁ : Moved → Job
+  -- the job with the number that the call told, and what is told on
+  abbrev h₁ : FlatMoved → Job
   h₁ r = withMade h (r .made)
 
-  abbrev rest : Moved → Advanced
-  rest r = record { answer = r .answer; stores = r .stores; done = r .done }
+  abbrev rest : FlatMoved → FlatAdvanced
+  rest r = record { stores = r .stores; number = r .number; done = r .done }
 
-  exits : (r : Moved) (zs : List ℕ) → (movedSeen h r ≡ stepOf h (length ys) n) × (zs ≡ slotAfter h ys n) → length zs ≡ length ys → Is Ad.the-row (rest r) (Ad′.lowered (rest r) ∷ [])
+  exits : (r : FlatMoved) (zs : List ℕ) → (r ≡ movedOut (stepOf h (length ys) n)) × (zs ≡ slotAfter h ys n) → length zs ≡ length ys → Is Ad.the-row (rest r) (Ad′.lowered (rest r) ∷ [])
       → ent 𝓤 (⋆ 𝓤 H A (‵ (fobs γ (R .coded .code (h₁ r))) ∷ ‵ (fbor κ (Body (mem R) b o γ)) ∷ ‵ (flft κ q) ∷ (‵ (flft κ′ q′) ⊛ ‵ ftrue) ∷ ‵ (finally u8 γ′ zs) ∷ [])) (Post (Ad′.lowered (rest r)))
   exits r zs e l is =
       qed W (‵ (fobs γ (R .coded .code (h₁ r))) ∷ ‵ (fbor κ (Body (mem R) b o γ)) ∷ ‵ (flft κ q) ∷ (‵ (flft κ′ q′) ⊛ ‵ ftrue) ∷ ‵ (finally u8 γ′ zs) ∷ []) ∵
       suffices ! _ (ends-at 𝓤 H A place.ended stayed (place.clauses 𝓤 H A at-mem run) W (((κ, (κ′, tt)), (q, (q′, tt)), tt, a, vals), tt) (Ad′.lowered (rest r)) (rest r) (h₁ r, (zs, (tt, tt))) (tt, (l, (tt, tt)))) $
-      says ! (ap tells (e .0), (ap (λ (t : Steps). t .job) (e .0), e .1)) $
+      says ! (ap rest (e .0), (ap h₁ (e .0) ∙ step-keeps h (length ys) n, e .1)) $
       move ! (2 ∷ 3 ∷ []) $ join ! $ frame ! $ feqI ! (List Val) (vptr b o ∷ []) (vptr b o ∷ []) refl $ fjoin3 ! $
       nothing ! $ owned ! usize (Is usize) (uint-makes 𝓤 H A W w64) n _ (refl, n-fits) $ fjoin ! $ move ! (2 ∷ 0 ∷ []) $ fjoin ! $ move ! (1 ∷ 0 ∷ []) $ fjoin ! $
       owned ! Ad.the-row (Is Ad.the-row) (LL.makes Ad.the-type Ad′.the-plain 𝓤 H A) (rest r) _ is $ move ! (1 ∷ 0 ∷ []) $ done !
 
   -- what whoever holds the answer knows of its parts: what is told, and the new job
-  advance-is : (r : Moved) (w : Val) → Is S.the-row r (w ∷ []) → Is Ad.the-row (rest r) (Ad′.lowered (rest r) ∷ [])
+  advance-is : (r : FlatMoved) (w : Val) → Is S.the-row r (w ∷ []) → Is Ad.the-row (rest r) (Ad′.lowered (rest r) ∷ [])
   advance-is r w is =
       let t = LL.owes Ad.the-type Ad′.the-laws (rest r) (LL.owed S.the-type S′.the-laws r (w ∷ []) is .1) in
       subst (λ (vs : List Val). Is Ad.the-row (rest r) vs) (Ad′.lowers .val-is (rest r) _ t) t
 
-  new-job : Is R h (T′.lowered h ∷ []) → (r : Moved) (w : Val) → Is S.the-row r (w ∷ []) → Is R (h₁ r) (T′.lowered (h₁ r) ∷ [])
+  new-job : Is R h (T′.lowered h ∷ []) → (r : FlatMoved) (w : Val) → Is S.the-row r (w ∷ []) → Is R (h₁ r) (T′.lowered (h₁ r) ∷ [])
   new-job g r w is =
       let t = LL.owed T.the-type T′.the-laws h _ g in
       let m = LL.owed S.the-type S′.the-laws r (w ∷ []) is in
       let j = LL.owes T.the-type T′.the-laws (h₁ r) (t .0, (t .1 .0, (t .1 .1 .0, (m .0, tt)))) in
       subst (λ (vs : List Val). Is R (h₁ r) vs) (T′.lowers .val-is (h₁ r) _ j) j
 
-  module _ (C : Calls 𝓤 H) (Λ : Loops 𝓤 H) (fm : FmC 𝓤 H (W .laws) C) (known : Triple 𝓤 (C #job·advance·advance) (Step 𝓤 H A at-mem run)) where
+  module _ (C : Calls 𝓤 H) (Λ : Loops 𝓤 H) (fm : FmC 𝓤 H (W .laws) C) (known : Triple 𝓤 (C #capi·jobs·advanced) (Step 𝓤 H A at-mem run)) where
     walk : ent 𝓤 (onEntry 𝓤 H A place.signature (κ, (κ′, tt)) (q, (q′, tt)) a vals) (WpFn 𝓤 H C Λ code.function (vptr b o ∷ s ∷ vint w64 n ∷ []) Post)
     walk =
         qed W ((‵ (flft κ q) ⊛ ‵ (flft κ′ q′) ⊛ ‵ ftrue) ∷ ‵ (owns (MutRef (named 0) κ R ∷ MutSlice (named 1) κ′ u8 ∷ usize ∷ []) a vals) ∷ []) ∵ enter ! C Λ code.function (vptr b o ∷ s ∷ vint w64 n ∷ []) _ $
@@ -205,12 +206,12 @@ module _ {M : Type 1} (𝓤 : URA M) (H : Heap 𝓤) (A : Atoms 𝓤) (W : Given
         use1 W (later (some (λ (δ : GName). ‵ (ShrRef (named 0) (ν ∷ []) AR .own (y δ) (vptr b (o + 0) ∷ [])) ⊛ ‵ (flent (ν ∷ []) Bytes)))) (lends-shr 𝓤 H A W AR (named 0) (ν ∷ []) fullShare (h .staged) b (o + 0)) $ await ! tt $ pick ! (λ δ. split ! $
         -- [the lent bytes; the lender's part; ν's token; the rest of the job; the open borrow; obs; auth; the slot's token; what slot and allowance own; _10; …]
         move ! (8 ∷ []) $ fsplit ! $ move ! (4 ∷ 9 ∷ []) $ join ! $ move ! (0 ∷ 3 ∷ 1 ∷ []) $ use3 W (raw (Step 𝓤 H A at-mem run .pre (to-step ν δ))) (goes g ν δ) $
-        -- [what `advance` asks; what allowance owns; the lender's part; the rest of the job; the open borrow; obs; auth; _10; …]
+        -- [what the call asks; what allowance owns; the lender's part; the rest of the job; the open borrow; obs; auth; _10; …]
         calls-at ! fm (Step 𝓤 H A at-mem run) known (to-step ν δ) (and-then ! (load ! (from ! (stop !)) (look ! 11 refl)) (and-then ! (load ! (from ! (stop !)) (look ! 19 refl)) (and-then ! (load ! (from ! (stop !)) (look ! 17 refl)) (and-then ! (load ! (from ! (stop !)) (look ! 15 refl)) (and-then ! (load ! (from ! (stop !)) (look ! 7 refl)) (and-then ! (load ! (from ! (stop !)) (look ! 21 refl)) (no-more !))))))) (λ w.
-        use1 W (later (some (λ (r : Moved). ((‵ (flft (ν ∷ []) fullShare) ⊛ ‵ (flft κ′ q′) ⊛ ‵ ftrue) ⊛ ‵ (S.the-row .own r (w ∷ []))) ⊛ raw (ensured 𝓤 H A step′.ended (step′.clauses 𝓤 H A at-mem run) (ν ∷ [], (κ′, tt)) (y δ, (h .«slot_size», (h .«descriptor_size», (h .«stores_made», (x, (n, tt)))))) tt r)))) (id⊢ 𝓤 _) $ await ! tt $ pick ! (λ r.
-        -- what `advance` ensures, at some last list
-        split ! $ move ! (1 ∷ []) $ use1 W (some (λ (zs : Unit {0} × (Unit {0} × (Unit {0} × (Unit {0} × (List ℕ × (Unit {0} × Unit {0})))))). ‵ (lasts step′.ended (ν ∷ [], (κ′, tt)) (y δ, (h .«slot_size», (h .«descriptor_size», (h .«stores_made», (x, (n, tt)))))) zs) ⊛ (raw (fact 𝓤 (movedSeen h r ≡ stepOf h (length ys) n)) ⊛ raw (fact 𝓤 (zs .1 .1 .1 .1 .0 ≡ slotAfter h ys n))))) (id⊢ 𝓤 _) $ pick ! (λ zs.
-        split ! $ move ! (1 ∷ []) $ split ! $ heard ! (movedSeen h r ≡ stepOf h (length ys) n) (λ t. heard ! (zs .1 .1 .1 .1 .0 ≡ slotAfter h ys n) (λ l′. fsplit ! $ drop ! $ fsplit ! $ drop ! $ fsplit ! $ drop ! $ fsplit ! $ drop ! $ fsplit ! $ fsplit ! $ move ! (1 ∷ []) $ feqL ! (λ l.
+        use1 W (later (some (λ (r : FlatMoved). ((‵ (flft (ν ∷ []) fullShare) ⊛ ‵ (flft κ′ q′) ⊛ ‵ ftrue) ⊛ ‵ (S.the-row .own r (w ∷ []))) ⊛ raw (ensured 𝓤 H A step′.ended (step′.clauses 𝓤 H A at-mem run) (ν ∷ [], (κ′, tt)) (y δ, (h .«slot_size», (h .«descriptor_size», (h .«stores_made», (x, (n, tt)))))) tt r)))) (id⊢ 𝓤 _) $ await ! tt $ pick ! (λ r.
+        -- what the call ensures, at some last list
+        split ! $ move ! (1 ∷ []) $ use1 W (some (λ (zs : Unit {0} × (Unit {0} × (Unit {0} × (Unit {0} × (List ℕ × (Unit {0} × Unit {0})))))). ‵ (lasts step′.ended (ν ∷ [], (κ′, tt)) (y δ, (h .«slot_size», (h .«descriptor_size», (h .«stores_made», (x, (n, tt)))))) zs) ⊛ (raw (fact 𝓤 (r ≡ movedOut (stepOf h (length ys) n))) ⊛ raw (fact 𝓤 (zs .1 .1 .1 .1 .0 ≡ slotAfter h ys n))))) (id⊢ 𝓤 _) $ pick ! (λ zs.
+        split ! $ move ! (1 ∷ []) $ split ! $ heard ! (r ≡ movedOut (stepOf h (length ys) n)) (λ t. heard ! (zs .1 .1 .1 .1 .0 ≡ slotAfter h ys n) (λ l′. fsplit ! $ drop ! $ fsplit ! $ drop ! $ fsplit ! $ drop ! $ fsplit ! $ drop ! $ fsplit ! $ fsplit ! $ move ! (1 ∷ []) $ feqL ! (λ l.
         move ! (2 ∷ []) $ split ! $ move ! (1 ∷ []) $ peeks ! S.the-row (Is S.the-row) (shows 𝓤 H A S.the-row) r (w ∷ []) (λ is.
         -- [what the answer owns; the tokens; the slot's last list; …; what allowance owns; the lender's part; the rest of the job; the open borrow; obs; auth; _10; …]
         land ! (from ! (stop !)) (init ! 16 refl (LL.lawful S.the-type S′.the-laws 𝓤 H A W .typed r _ is .0)) $
@@ -234,21 +235,21 @@ module _ {M : Type 1} (𝓤 : URA M) (H : Heap 𝓤) (A : Atoms 𝓤) (W : Given
         keep ! (0 ∷ 1 ∷ 2 ∷ 3 ∷ 4 ∷ []) $ by ! (exits r (zs .1 .1 .1 .1 .0) (t, l′) l (advance-is r w is)))))))))))))))))))))))))
 
 module _ {M : Type 1} (𝓤 : URA M) (H : Heap 𝓤) (A : Atoms 𝓤) (W : Given 𝓤 H A) (mem : Memory → SProp 𝓤) (run : Routine → Fun 𝓤) where
-  place-walks : (C : Calls 𝓤 H) (Λ : Loops 𝓤 H) → FmC 𝓤 H (W .laws) C → Triple 𝓤 (C #job·advance·advance) (Step 𝓤 H A mem run) → Walks 𝓤 H A place.ended stayed (WpFn 𝓤 H C Λ code.function) (place.clauses 𝓤 H A mem run)
+  place-walks : (C : Calls 𝓤 H) (Λ : Loops 𝓤 H) → FmC 𝓤 H (W .laws) C → Triple 𝓤 (C #capi·jobs·advanced) (Step 𝓤 H A mem run) → Walks 𝓤 H A place.ended stayed (WpFn 𝓤 H C Λ code.function) (place.clauses 𝓤 H A mem run)
   place-walks C Λ fm known = walked 𝓤 H A place.ended stayed (place.clauses 𝓤 H A mem run) (WpFn 𝓤 H C Λ code.function)
       (λ κs. (ptr-vals, (slice-vals, (uint-vals w64, tt)))) (λ κs. (mut-tells (named 0) (κs .0) T.the-row, (mut-slice-tells (named 1) (κs .1 .0) u8, (uint-tells w64, tt))))
       (λ κs qs bounds a g are. via 𝓤 _ (fst∗ 𝓤 _ (emp 𝓤)) (walk 𝓤 H A W mem run (κs .0) (κs .1 .0) (qs .0) (qs .1 .0) (a .0 .ptr .0) (a .0 .ptr .1) (a .0 .name) (a .0 .now) (a .1 .0 .ptr .0) (a .1 .0 .ptr .1) (a .1 .0 .name) (a .1 .0 .now) (a .1 .1 .0) (are .1 .0 .0 .1) (are .1 .1 .0 .1) C Λ fm known))
 
-place-meets : {M : Type 1} (𝓤 : URA M) (H : Heap 𝓤) (A : Atoms 𝓤) → Given 𝓤 H A → (mem : Memory → SProp 𝓤) (run : Routine → Fun 𝓤) (𝓣 : Tables 𝓤 H) → Triple 𝓤 (𝓣 .C #job·advance·advance) (Step 𝓤 H A mem run)
+place-meets : {M : Type 1} (𝓤 : URA M) (H : Heap 𝓤) (A : Atoms 𝓤) → Given 𝓤 H A → (mem : Memory → SProp 𝓤) (run : Routine → Fun 𝓤) (𝓣 : Tables 𝓤 H) → Triple 𝓤 (𝓣 .C #capi·jobs·advanced) (Step 𝓤 H A mem run)
     → Meets 𝓤 H A place.signature (WpFn 𝓤 H (𝓣 .C) (𝓣 .Λ) code.function) (place.spec 𝓤 H A mem run)
 place-meets 𝓤 H A W mem run 𝓣 known =
     walk-meets 𝓤 H A place.ended stayed W (goes-ref 𝓤 H A W 2 0 tt (plain (λ _. T.the-row)), (goes-gave-slice 𝓤 H A W 2 1 tt (plain (λ _. u8)), (goes-none 𝓤 H A W 2 (λ _. usize) yes (λ κs x f. refl), tt))) (place.clauses 𝓤 H A mem run)
     (WpFn 𝓤 H (𝓣 .C) (𝓣 .Λ) code.function) (WpFn-mono 𝓤 H (W .laws) 𝓣 code.function) (place-walks 𝓤 H A W mem run (𝓣 .C) (𝓣 .Λ) (fmOf 𝓤 H (W .laws) 𝓣) known)
 
-pub step-on-site-spec : {M : Type 1} → stated.statement M
+pub s2xv2-step-in-place-spec : {M : Type 1} → stated.statement M
 unfolding code.routine tablesOf
-step-on-site-spec 𝓤 H 𝓜 𝓖 𝓡 =
+s2xv2-step-in-place-spec 𝓤 H 𝓜 𝓖 𝓡 =
     entered 𝓤 H (tripleOf 𝓤 H (𝓖 .A) place.signature (place.spec 𝓤 H (𝓖 .A) (𝓜 .mem) (𝓡 .run)))
-    (tables 𝓤 H 𝓜 𝓡 code.env .C) (tables 𝓤 H 𝓜 𝓡 code.env .Λ) #onsite·step-on-site code.function (code.unfolded 𝓤 H 𝓜 𝓡)
+    (tables 𝓤 H 𝓜 𝓡 code.env .C) (tables 𝓤 H 𝓜 𝓡 code.env .Λ) #capi·jobs·s2xv2-step-in-place code.function (code.unfolded 𝓤 H 𝓜 𝓡)
     (place-meets 𝓤 H (𝓖 .A) (givenOf 𝓤 H 𝓜 𝓖) (𝓜 .mem) (𝓡 .run) (tablesOf 𝓤 H 𝓜 (tables 𝓤 H 𝓜 𝓡 code.env))
-    (cited 𝓤 H (Step 𝓤 H (𝓖 .A) (𝓜 .mem) (𝓡 .run)) 𝓜 𝓡 code.env #job·advance·advance step-def.routine code.calls-job·advance·advance (step-thm.met 𝓤 H 𝓜 𝓖 𝓡)))
+    (cited 𝓤 H (Step 𝓤 H (𝓖 .A) (𝓜 .mem) (𝓡 .run)) 𝓜 𝓡 code.env #capi·jobs·advanced step-def.routine code.calls-capi·jobs·advanced (step-thm.met 𝓤 H 𝓜 𝓖 𝓡)))
