@@ -55,7 +55,8 @@ pub fn answer_out(answer: Answer) -> FlatAnswer
     }
 }
 
-fn is_reserved(mode: S2Xv2Mode) -> u8
+// Whether a mode is `Reserved`, as a flag.
+pub fn is_reserved(mode: S2Xv2Mode) -> u8
     ensures { λ r. ⌜ r ≡ isReserved mode ⌝ }
 {
     match mode {
@@ -128,7 +129,8 @@ fn block_out(f: S2Xv2Superframe) -> FlatSuperframe
     }
 }
 
-fn no_block() -> FlatSuperframe
+// What crosses for a block that is not there.
+pub fn no_block() -> FlatSuperframe
     ensures { λ r. ⌜ r ≡ superframeOut OptionSuperframe.None ⌝ }
 {
     FlatSuperframe {
