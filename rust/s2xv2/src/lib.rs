@@ -1,0 +1,53 @@
+//! Reads, measures and writes the body of the S2Xv2 satellite delivery system descriptor (ETSI EN 300 468, 6.4.6.5.3), and replaces that
+//! descriptor in a slot of a live loop by single-byte stores, with a place to stop between any two.
+//!
+//! The work is done by a proved library behind a C boundary. This crate gives it the types that a Rust program expects, needs no other
+//! crate, and does without `std`. Every call takes any bytes, record, slot or job; a bad one is answered by a [`Refusal`], and a refused
+//! call stores nothing in what it was lent.
+//!
+//! ```
+//! use s2xv2::{Refusal, S2Xv2SatelliteDeliverySystem};
+//!
+//! let mut body = [0; 18];
+//! body[17] = 7;
+//! let record = S2Xv2SatelliteDeliverySystem::parse(&body)?;
+//! assert_eq!(record.symbol_rate, 7);
+//!
+//! let mut written = [0; 18];
+//! assert_eq!(record.serialize_into(&mut written)?, 18);
+//! assert_eq!(written, body);
+//!
+//! let short = S2Xv2SatelliteDeliverySystem::parse(&body[..17]);
+//! assert_eq!(short, Err(Refusal::Short { place: 1, need: 18, have: 17 }));
+//! # Ok::<(), Refusal>(())
+//! ```
+//!
+//! In what follows, document 01 is the paper from which the library is made: it numbers the refusals, and lists what is refused of a
+//! record (list A: it contradicts itself; list B: a value is too wide for the wire).
+#![no_std]
+#![deny(unsafe_code)]
+#![warn(missing_docs)]
+
+extern crate alloc;
+
+mod carrier;
+mod crossing;
+#[allow(unsafe_code)]
+mod ffi;
+mod job;
+mod mode;
+mod record;
+mod refusal;
+mod slot;
+mod superframe;
+
+pub use carrier::{Polarization, RollOff};
+pub use job::{Job, Progress};
+pub use mode::S2Xv2Mode;
+pub use record::S2Xv2SatelliteDeliverySystem;
+pub use refusal::Refusal;
+pub use slot::{read_slot, Slot};
+pub use superframe::S2Xv2Superframe;
+
+/// What every reserved field of a new record holds.
+pub const S2XV2_RESERVED_ZERO_FUTURE_USE_DEFAULT: u8 = 0;

@@ -1,0 +1,193 @@
+//! Why a call was refused.
+use core::fmt;
+
+/// Why a call was refused: document 01's refusals by their names, and one of the boundary's own.
+///
+/// It prints as a sentence that names the part or the field.
+///
+/// ```
+/// use s2xv2::{Refusal, S2Xv2SatelliteDeliverySystem};
+///
+/// let mut body = [0; 18];
+/// assert!(S2Xv2SatelliteDeliverySystem::parse(&body).is_ok());
+///
+/// body[4] = 0x20;
+/// let refusal = S2Xv2SatelliteDeliverySystem::parse(&body).unwrap_err();
+/// assert_eq!(refusal, Refusal::Short { place: 4, need: 19, have: 18 });
+/// assert_eq!((refusal.number(), refusal.told()), (1, [4, 19, 18]));
+/// assert_eq!(
+///     refusal.to_string(),
+///     "the body ends inside the timeslice number: 19 bytes are needed, 18 are there"
+/// );
+/// ```
+#[derive(Debug, Clone, Copy, PartialEq, Eq, Hash)]
+#[non_exhaustive]
+pub enum Refusal {
+    /// The body ends inside a part.
+    Short {
+        /// Which part, from 1 to 9 in wire order.
+        place: u8,
+        /// Where that part ends.
+        need: usize,
+        /// How long the body is.
+        have: usize,
+    },
+    /// A body or an encoding of more than 4,096 bytes.
+    Long {
+        /// Its length, or 65,535 where it is above that.
+        length: u16,
+    },
+    /// A record that contradicts itself.
+    Inconsistent {
+        /// The first place of list A that holds, from 1 to 9.
+        place: u8,
+    },
+    /// A value that the wire cannot carry.
+    Field {
+        /// The first place of list B that holds, from 1 to 22.
+        place: u8,
+    },
+    /// An output buffer that is too small.
+    Room {
+        /// How many bytes the record takes.
+        need: usize,
+        /// How many the buffer has.
+        have: usize,
+    },
+    /// A slot of a wrong size or form.
+    Slot,
+    /// A descriptor that is larger than the slot, or exactly one byte smaller.
+    NoFit {
+        /// The descriptor's size.
+        size: usize,
+    },
+    /// A step on a slot of another size than at begin, or of a job that no begin and steps could give.
+    OtherSize,
+    /// A record with more than 255 ids, which cannot cross the boundary; or an answer that came back with numbers that the library's
+    /// contracts do not allow.
+    Foreign,
+}
+
+const PARTS: [&str; 9] = [
+    "the core",
+    "the input stream identifier",
+    "the scrambling sequence index",
+    "the timeslice number",
+    "the channel bond header",
+    "a secondary delivery system id",
+    "the superframe block",
+    "the beam hopping time plan id",
+    "the last byte of the superframe block",
+];
+
+const LIST_A: [&str; 9] = [
+    "s2xv2_mode is Reserved with a code that has a name of its own",
+    "input_stream_identifier and multiple_input_stream_flag disagree",
+    "scrambling_sequence_selector is missing in mode 1 or 2, or present in another",
+    "scrambling_sequence_index is present though scrambling_sequence_selector is not set",
+    "timeslice_number is missing in mode 2 or 5, or present in another",
+    "secondary_delivery_system_ids are present though channel_bond is not 1",
+    "superframe is missing in mode 4 or 5, or present in another",
+    "sffi is present though sffi_selector is clear",
+    "beamhopping_time_plan_id is present though beam_hopping_time_plan_selector is clear",
+];
+
+const LIST_B: [&str; 22] = [
+    "s2xv2_mode is above 15",
+    "roll_off is above 7",
+    "reserved_zero_future_use_2 is above 3",
+    "channel_bond is above 3",
+    "polarization is above 3",
+    "reserved_zero_future_use_1 is above 1",
+    "ts_gs_s2x_mode is above 3",
+    "receiver_profiles is above 31",
+    "satellite_id is above 16777215",
+    "scrambling_sequence_index is absent though scrambling_sequence_selector is set",
+    "scrambling_sequence_index is above 262143",
+    "reserved_zero_future_use_6 is above 63",
+    "secondary_delivery_system_ids are neither one nor two though channel_bond is 1",
+    "reserved_zero_future_use_7 is above 127",
+    "reference_scrambling_index is above 1048575",
+    "payload_scrambling_index is above 1048575",
+    "reserved_zero_future_use_2 of the superframe is above 3",
+    "sffi is absent though sffi_selector is set",
+    "sffi, or reserved_zero_future_use_4 in its place, is above 15",
+    "beamhopping_time_plan_id is absent though beam_hopping_time_plan_selector is set",
+    "superframe_pilots_wh_sequence_number is above 31",
+    "postamble_pli is above 7",
+];
+
+/// The words for a place, which counts from 1.
+fn words(list: &[&'static str], place: u8) -> &'static str {
+    let at = usize::from(place).checked_sub(1);
+    at.and_then(|at| list.get(at)).copied().unwrap_or("a place that no list has")
+}
+
+/// So many are there.
+fn are(count: usize) -> &'static str {
+    if count == 1 {
+        "is"
+    } else {
+        "are"
+    }
+}
+
+impl Refusal {
+    /// Document 01's number of the refusal, from 1 to 8; 100 for [`Refusal::Foreign`].
+    #[must_use]
+    pub const fn number(&self) -> u8 {
+        match self {
+            Self::Short { .. } => 1,
+            Self::Long { .. } => 2,
+            Self::Inconsistent { .. } => 3,
+            Self::Field { .. } => 4,
+            Self::Room { .. } => 5,
+            Self::Slot => 6,
+            Self::NoFit { .. } => 7,
+            Self::OtherSize => 8,
+            Self::Foreign => 100,
+        }
+    }
+
+    /// What the refusal tells, in the order of its fields, with 0 where it tells less.
+    #[must_use]
+    pub fn told(&self) -> [usize; 3] {
+        match *self {
+            Self::Short { place, need, have } => [place.into(), need, have],
+            Self::Long { length } => [length.into(), 0, 0],
+            Self::Inconsistent { place } | Self::Field { place } => [place.into(), 0, 0],
+            Self::Room { need, have } => [need, have, 0],
+            Self::NoFit { size } => [size, 0, 0],
+            Self::Slot | Self::OtherSize | Self::Foreign => [0; 3],
+        }
+    }
+}
+
+impl fmt::Display for Refusal {
+    fn fmt(&self, f: &mut fmt::Formatter<'_>) -> fmt::Result {
+        match *self {
+            Self::Short { place, need, have } => {
+                let part = words(&PARTS, place);
+                write!(
+                    f,
+                    "the body ends inside {part}: {need} bytes are needed, {have} {} there",
+                    are(have)
+                )
+            }
+            Self::Long { length: u16::MAX } => f.write_str("65535 bytes or more are too long: 4096 are the most"),
+            Self::Long { length } => write!(f, "{length} bytes are too long: 4096 are the most"),
+            Self::Inconsistent { place } => write!(f, "the record contradicts itself: {}", words(&LIST_A, place)),
+            Self::Field { place } => write!(f, "the wire cannot carry the record: {}", words(&LIST_B, place)),
+            Self::Room { need, have } => write!(f, "the buffer is too small: {need} bytes are needed, {have} {} there", are(have)),
+            Self::Slot => f.write_str("the slot is not in good form, or its size is not from 21 to 257"),
+            Self::NoFit { size } => write!(
+                f,
+                "a descriptor of {size} bytes is larger than the slot, or exactly one byte smaller"
+            ),
+            Self::OtherSize => f.write_str("the slot has another size than at begin, or no begin and steps could give the job"),
+            Self::Foreign => f.write_str("more than 255 ids cannot cross the boundary, or what came back is no answer of the library"),
+        }
+    }
+}
+
+impl core::error::Error for Refusal {}

@@ -1,0 +1,101 @@
+//! A slot of a loop.
+use crate::crossing::{accepted, record_out};
+use crate::{ffi, Refusal, S2Xv2SatelliteDeliverySystem};
+
+/// The record that the bytes of a slot hold, or `None` of an empty slot. For a copy of a slot, as a sender has it; [`Slot::read`] is the
+/// same for a slot itself.
+///
+/// ```
+/// use s2xv2::{read_slot, Refusal};
+///
+/// let mut copy = [0xFF; 21];
+/// copy[..2].copy_from_slice(&[0x42, 19]); // stuffing to the end
+/// assert_eq!(read_slot(&copy), Ok(None));
+///
+/// copy[1] = 18; // stuffing that ends one byte too early
+/// assert_eq!(read_slot(&copy), Err(Refusal::Slot));
+/// ```
+///
+/// # Errors
+/// [`Refusal::Slot`] for a wrong size or form, and [`Refusal::Short`] for a body that ends inside a part.
+pub fn read_slot(bytes: &[u8]) -> Result<Option<S2Xv2SatelliteDeliverySystem<'_>>, Refusal> {
+    let read = ffi::slot_read(bytes);
+    let (place, length) = accepted(read.answer)?;
+    if place == 0 {
+        return Ok(None);
+    }
+    let tail = bytes.get(place..).and_then(|rest| rest.get(..length)).ok_or(Refusal::Foreign)?;
+    record_out(&read.body, tail).map(Some)
+}
+
+/// The bytes of a loop in which one descriptor is kept: from 21 to 257 of them.
+///
+/// A slot is in good form when it holds our descriptor or stuffing, and after that nothing, or stuffing that ends where the slot ends. A
+/// slot may be made from any bytes: each call judges them by itself.
+#[derive(Debug)]
+pub struct Slot<'a> {
+    bytes: &'a mut [u8],
+}
+
+impl<'a> Slot<'a> {
+    /// The slot on these bytes, as they are.
+    pub fn new(bytes: &'a mut [u8]) -> Self {
+        Self { bytes }
+    }
+
+    /// The record that the slot holds, whose tail is a part of the slot; or `None` of an empty slot.
+    ///
+    /// ```
+    /// use s2xv2::{Refusal, Slot};
+    ///
+    /// let mut bytes = [0; 21];
+    /// bytes[..3].copy_from_slice(&[0x7F, 19, 0x24]);
+    /// bytes[20] = 7;
+    /// let record = Slot::new(&mut bytes).read()?.unwrap();
+    /// assert_eq!(record.symbol_rate, 7);
+    ///
+    /// bytes[0] = 0x43;
+    /// assert_eq!(Slot::new(&mut bytes).read(), Err(Refusal::Slot));
+    /// # Ok::<(), Refusal>(())
+    /// ```
+    ///
+    /// # Errors
+    /// [`Refusal::Slot`] for a wrong size or form, and [`Refusal::Short`] for a body that ends inside a part.
+    pub fn read(&self) -> Result<Option<S2Xv2SatelliteDeliverySystem<'_>>, Refusal> {
+        read_slot(self.bytes)
+    }
+
+    /// Makes the slot empty, whatever it holds. For a slot that nobody reads yet: a cut inside this call is not provided for.
+    ///
+    /// ```
+    /// use s2xv2::{Refusal, Slot};
+    ///
+    /// let mut bytes = [7; 21];
+    /// let mut slot = Slot::new(&mut bytes);
+    /// slot.make_empty()?;
+    /// assert_eq!(slot.read(), Ok(None));
+    /// assert_eq!(slot.bytes()[..3], [0x42, 19, 0xFF]);
+    ///
+    /// let mut bytes = [7; 20];
+    /// assert_eq!(Slot::new(&mut bytes).make_empty(), Err(Refusal::Slot));
+    /// assert_eq!(bytes, [7; 20]);
+    /// # Ok::<(), Refusal>(())
+    /// ```
+    ///
+    /// # Errors
+    /// [`Refusal::Slot`] for a size below 21 or above 257; then nothing is stored.
+    pub fn make_empty(&mut self) -> Result<(), Refusal> {
+        accepted(ffi::slot_make_empty(self.bytes)).map(|_| ())
+    }
+
+    /// The slot's bytes.
+    #[must_use]
+    pub fn bytes(&self) -> &[u8] {
+        self.bytes
+    }
+
+    /// The slot's bytes, for a step.
+    pub(crate) fn bytes_mut(&mut self) -> &mut [u8] {
+        self.bytes
+    }
+}
