@@ -6,7 +6,7 @@ use crate::generator::{next, seed};
 use crate::stream::Stream;
 use crate::values::{Values, COUNT};
 
-const SIZES: u32 = 237;
+pub const SIZES: u32 = 237;
 pub const CASES: u32 = SIZES * 6;
 
 fn good_form(slot: &[u8]) -> bool {
@@ -21,7 +21,7 @@ fn good_form(slot: &[u8]) -> bool {
 }
 
 /// The stuffing descriptor of so many bytes.
-fn stuffing(n: usize) -> Vec<u8> {
+pub fn stuffing(n: usize) -> Vec<u8> {
     let mut bytes = vec![0xFF; n];
     bytes[0] = 0x42;
     bytes[1] = (n - 2) as u8;
@@ -29,12 +29,13 @@ fn stuffing(n: usize) -> Vec<u8> {
 }
 
 /// The stores of a job, in their order, and how many are made; none for a begin that was refused.
-struct Job {
-    stores: Vec<(usize, u8)>,
-    made: usize,
+pub struct Job {
+    pub stores: Vec<(usize, u8)>,
+    pub made: usize,
 }
 
-fn begin(slot: &[u8], record: &Values, tail: &[u8]) -> (Vec<u32>, Job) {
+/// The answer of a begin: 0 and the number of stores, or a refusal; and the job.
+pub fn begin(slot: &[u8], record: &Values, tail: &[u8]) -> (Vec<u32>, Job) {
     let none = Job { stores: vec![], made: 0 };
     if !good_form(slot) {
         return (vec![6], none);
@@ -64,7 +65,7 @@ fn begin(slot: &[u8], record: &Values, tail: &[u8]) -> (Vec<u32>, Job) {
 }
 
 /// How many stores were made, whether none are left, and the answer.
-fn step(job: &mut Job, slot: &mut [u8], allowance: usize) -> [u32; 3] {
+pub fn step(job: &mut Job, slot: &mut [u8], allowance: usize) -> [u32; 3] {
     if job.stores.is_empty() {
         return [0, 0, 8];
     }
@@ -77,7 +78,7 @@ fn step(job: &mut Job, slot: &mut [u8], allowance: usize) -> [u32; 3] {
 }
 
 /// What a slot reads as: 0 with the tail's place and length, 9 for an empty one, or a refusal.
-fn reading(slot: &[u8]) -> Vec<u32> {
+pub fn reading(slot: &[u8]) -> Vec<u32> {
     if !good_form(slot) {
         return vec![6];
     }

@@ -6,20 +6,10 @@
 //!     oracle edges                 shows what the crate itself answers to the cases with a name that document 01 refuses otherwise
 //!     oracle show SET CASE         shows every number of a case, by name
 //!     oracle compare PROGRAM       finds the first case in which PROGRAM, a built `replay`, differs
-mod answer;
-mod compare;
-mod crate_side;
-mod generator;
-mod jobs;
-mod model;
-mod named;
-mod sets;
-mod stream;
-mod values;
-
-use answer::{Answer, CELLS};
+use oracle::answer::{Answer, CELLS};
+use oracle::stream::Stream;
+use oracle::{compare, crate_side, generator, jobs, named, sets};
 use std::process::ExitCode;
-use stream::Stream;
 
 fn words(numbers: &[u32]) -> String {
     numbers.iter().map(u32::to_string).collect::<Vec<_>>().join(" ")
