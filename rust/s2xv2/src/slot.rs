@@ -51,8 +51,8 @@ impl<'a> Slot<'a> {
     /// let mut bytes = [0; 21];
     /// bytes[..3].copy_from_slice(&[0x7F, 19, 0x24]);
     /// bytes[20] = 7;
-    /// let record = Slot::new(&mut bytes).read()?.unwrap();
-    /// assert_eq!(record.symbol_rate, 7);
+    /// let slot = Slot::new(&mut bytes);
+    /// assert_eq!(slot.read()?.unwrap().symbol_rate, 7);
     ///
     /// bytes[0] = 0x43;
     /// assert_eq!(Slot::new(&mut bytes).read(), Err(Refusal::Slot));

@@ -1,0 +1,31 @@
+//! Comparisons, and how many there were.
+use crate::ours::Told;
+use std::collections::BTreeMap;
+use std::fmt::Debug;
+
+#[derive(Default)]
+pub struct Tally {
+    pub comparisons: u64,
+    counts: BTreeMap<u32, u64>,
+}
+
+impl Tally {
+    /// One comparison. What the case is about is said only where the two differ.
+    pub fn same<T: PartialEq + Debug>(&mut self, ours: &T, theirs: &T, about: impl Fn() -> String) -> Result<(), String> {
+        self.comparisons += 1;
+        if ours == theirs {
+            return Ok(());
+        }
+        Err(format!("{}\n  the library: {ours:?}\n  the other:   {theirs:?}", about()))
+    }
+
+    /// Counts an answer by its number.
+    pub fn count(&mut self, told: &Told) {
+        *self.counts.entry(told[0]).or_default() += 1;
+    }
+
+    pub fn answers(&self) -> String {
+        let cells: Vec<String> = self.counts.iter().map(|(number, count)| format!("{number}: {count}")).collect();
+        cells.join(", ")
+    }
+}
