@@ -160,3 +160,80 @@ pub(crate) fn accepted(answer: ffi::Answer) -> Result<(usize, usize), Refusal> {
     };
     Err(refusal.unwrap_or(Refusal::Foreign))
 }
+
+#[cfg(test)]
+mod tests {
+    use super::*;
+
+    fn answer(number: usize, first: usize) -> ffi::Answer {
+        ffi::Answer {
+            number,
+            first,
+            second: 5,
+            third: 6,
+        }
+    }
+
+    #[test]
+    fn each_number_has_its_refusal() {
+        assert_eq!(accepted(answer(0, 4)), Ok((4, 5)));
+        for (number, refusal) in [
+            (
+                1,
+                Refusal::Short {
+                    place: 4,
+                    need: 5,
+                    have: 6,
+                },
+            ),
+            (2, Refusal::Long { length: 4 }),
+            (3, Refusal::Inconsistent { place: 4 }),
+            (4, Refusal::Field { place: 4 }),
+            (5, Refusal::Room { need: 4, have: 5 }),
+            (6, Refusal::Slot),
+            (7, Refusal::NoFit { size: 4 }),
+            (8, Refusal::OtherSize),
+            (100, Refusal::Foreign),
+        ] {
+            assert_eq!(accepted(answer(number, 4)), Err(refusal));
+            assert_eq!(usize::from(refusal.number()), number);
+        }
+    }
+
+    #[test]
+    fn numbers_that_no_contract_allows() {
+        for number in [9, 99, 101, usize::MAX] {
+            assert_eq!(accepted(answer(number, 4)), Err(Refusal::Foreign));
+        }
+        for (number, first) in [(1, 0), (1, 10), (2, 65_536), (3, 0), (3, 10), (4, 23), (4, 256 + 4)] {
+            assert_eq!(accepted(answer(number, first)), Err(Refusal::Foreign));
+        }
+    }
+
+    #[test]
+    fn records_that_no_contract_allows() {
+        let changes: [fn(&mut ffi::Record); 15] = [
+            |c| c.mode_is_reserved = 2,
+            |c| c.s2xv2_mode = 6,
+            |c| c.multiple_input_stream_flag = 2,
+            |c| c.ncr_reference = 2,
+            |c| c.ncr_version = 255,
+            |c| c.polarization = 4,
+            |c| c.has_scrambling_sequence_selector = 2,
+            |c| c.scrambling_sequence_selector = 2,
+            |c| c.has_input_stream_identifier = 2,
+            |c| c.has_timeslice_number = 2,
+            |c| c.num_channel_bonds = 3,
+            |c| c.has_superframe = 2,
+            |c| c.superframe.sffi_selector = 2,
+            |c| c.superframe.has_sffi = 2,
+            |c| c.superframe.has_beamhopping_time_plan_id = 2,
+        ];
+        for change in changes {
+            let mut c = ffi::Record::default();
+            assert_eq!(record_out(&c, &[]), Ok(S2Xv2SatelliteDeliverySystem::default()));
+            change(&mut c);
+            assert_eq!(record_out(&c, &[]), Err(Refusal::Foreign));
+        }
+    }
+}

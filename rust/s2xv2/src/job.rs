@@ -168,3 +168,67 @@ fn progress(told: ffi::Advanced) -> Result<Progress, Refusal> {
         _ => Err(Refusal::Foreign),
     }
 }
+
+#[cfg(test)]
+mod tests {
+    use super::*;
+
+    fn forged(slot_size: usize, descriptor_size: usize, stores_made: usize) -> Job {
+        Job {
+            inner: ffi::Job {
+                staged: [0x11; 257],
+                slot_size,
+                descriptor_size,
+                stores_made,
+            },
+        }
+    }
+
+    #[test]
+    fn jobs_that_no_begin_and_steps_could_give() {
+        let max = usize::MAX;
+        for (slot_size, descriptor_size, stores_made) in [
+            (0, 0, 0),
+            (64, 0, 0),
+            (64, 20, 0),
+            (64, 63, 0),
+            (64, 65, 0),
+            (64, max, 0),
+            (64, 64, 67),
+            (64, 64, max),
+            (max, 64, 0),
+            (20, 20, 0),
+            (258, 64, 0),
+        ] {
+            let mut job = forged(slot_size, descriptor_size, stores_made);
+            let before = job.clone();
+            for n in [0, 20, 64, 258, slot_size.min(300)] {
+                let mut bytes = [7; 300];
+                let mut slot = Slot::new(&mut bytes[..n]);
+                for allowance in [0, 1, max] {
+                    assert_eq!(job.advance(&mut slot, allowance), Err(Refusal::OtherSize));
+                    assert_eq!(job.clone().step(&mut slot, allowance), (before.clone(), Err(Refusal::OtherSize)));
+                }
+                assert_eq!((&job, bytes), (&before, [7; 300]));
+            }
+            let _ = (job.stores_left(), job.stores_made());
+        }
+    }
+
+    #[test]
+    fn the_last_two_stores_come_from_the_sizes() {
+        let mut bytes = [7; 64];
+        let told = forged(64, 30, 0).advance(&mut Slot::new(&mut bytes), usize::MAX);
+        assert_eq!(told, Ok(Progress { stores: 66, done: true }));
+        assert_eq!(bytes[..3], [0x7F, 28, 0x11]);
+        assert_eq!(bytes[29..33], [0x11, 0x42, 32, 0xFF]);
+    }
+
+    #[test]
+    fn tellings_that_no_contract_allows() {
+        for (number, done) in [(0, 2), (1, 0), (100, 0), (255, 1)] {
+            let told = ffi::Advanced { stores: 1, number, done };
+            assert_eq!(progress(told), Err(Refusal::Foreign));
+        }
+    }
+}

@@ -191,3 +191,57 @@ impl fmt::Display for Refusal {
 }
 
 impl core::error::Error for Refusal {}
+
+#[cfg(test)]
+mod tests {
+    use super::*;
+    use alloc::string::ToString;
+
+    #[test]
+    fn sentences() {
+        for (refusal, sentence) in [
+            (
+                Refusal::Short {
+                    place: 1,
+                    need: 18,
+                    have: 1,
+                },
+                "the body ends inside the core: 18 bytes are needed, 1 is there",
+            ),
+            (Refusal::Long { length: 4097 }, "4097 bytes are too long: 4096 are the most"),
+            (
+                Refusal::Long { length: 65_535 },
+                "65535 bytes or more are too long: 4096 are the most",
+            ),
+            (
+                Refusal::Inconsistent { place: 8 },
+                "the record contradicts itself: sffi is present though sffi_selector is clear",
+            ),
+            (
+                Refusal::Field { place: 9 },
+                "the wire cannot carry the record: satellite_id is above 16777215",
+            ),
+            (
+                Refusal::Field { place: 22 },
+                "the wire cannot carry the record: postamble_pli is above 7",
+            ),
+            (
+                Refusal::Room { need: 18, have: 0 },
+                "the buffer is too small: 18 bytes are needed, 0 are there",
+            ),
+            (
+                Refusal::NoFit { size: 21 },
+                "a descriptor of 21 bytes is larger than the slot, or exactly one byte smaller",
+            ),
+        ] {
+            assert_eq!(refusal.to_string(), sentence);
+        }
+    }
+
+    #[test]
+    fn places_that_no_list_has() {
+        for place in [0, 23, 255] {
+            assert!(Refusal::Field { place }.to_string().ends_with("a place that no list has"));
+        }
+    }
+}
