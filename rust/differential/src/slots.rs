@@ -3,6 +3,7 @@ use crate::numbers::{from_values, to_values};
 use crate::ours::{padded, step, told, Reading};
 use crate::tally::Tally;
 use oracle::generator::{self, next, seed};
+use oracle::sets::BEFORE;
 use oracle::values::{Values, COUNT, POLARIZATION};
 use oracle::{crate_side, jobs};
 use s2xv2::{read_slot, Job, Slot};
@@ -125,7 +126,21 @@ fn allowance(d: &mut Draws) -> usize {
     }
 }
 
-/// A job on the slot, given up at a place by draws. True where it ran to its end.
+/// A step on a slot of another size is refused with 8, stores nothing and leaves the job as it was.
+fn compare_other_size(d: &mut Draws, job: &mut Job, tally: &mut Tally) -> Result<(), String> {
+    let n = d.below(300);
+    if n == job.slot_size() {
+        return Ok(());
+    }
+    let (before, mut slot) = (job.clone(), vec![BEFORE; n]);
+    let told = step(job.advance(&mut Slot::new(&mut slot), allowance(d)));
+    let (same, told_by_value) = job.clone().step(&mut Slot::new(&mut slot), allowance(d));
+    let ours = (told, step(told_by_value), &*job, same, slot);
+    let refused = ([0, 0, 8], [0, 0, 8], &before, before.clone(), vec![BEFORE; n]);
+    tally.same(&ours, &refused, || format!("steps on a slot of {n} bytes"))
+}
+
+/// A job on the slot, given up at a place by draws.
 fn compare_job(case: u32, d: &mut Draws, slot: &mut [u8], tally: &mut Tally) -> Result<(), String> {
     let mut theirs = slot.to_vec();
     let (values, tail) = record(case, d, slot.len());
@@ -137,6 +152,7 @@ fn compare_job(case: u32, d: &mut Draws, slot: &mut [u8], tally: &mut Tally) -> 
     compare_slot(slot, &theirs, tally)?;
     let Ok(mut job) = begun else { return Ok(()) };
     for _ in 0..d.below(12) {
+        compare_other_size(d, &mut job, tally)?;
         let allowance = allowance(d);
         let made = if d.below(2) == 0 {
             job.advance(&mut Slot::new(slot), allowance)

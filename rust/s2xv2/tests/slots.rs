@@ -150,6 +150,21 @@ fn every_place_to_stop() {
 }
 
 #[test]
+fn the_bytes_at_the_end() {
+    let mut record = Record::default();
+    record.reserved_tail = &[1, 2];
+    let mut bytes = vec![0x7F, 21, 0x24];
+    bytes.extend([0; 18]);
+    bytes.extend([1, 2]);
+    assert_eq!(stepped(&empty(23), &record, &[usize::MAX]), bytes);
+    bytes.extend([0x42, 0]);
+    assert_eq!(stepped(&empty(25), &record, &[usize::MAX]), bytes);
+    bytes[24] = 3;
+    bytes.extend([0xFF; 3]);
+    assert_eq!(stepped(&empty(28), &record, &[usize::MAX]), bytes);
+}
+
+#[test]
 fn every_allowance_ends_alike() {
     let new = full(5, &[3, 2, 1]);
     for n in [47, 64, 257] {
