@@ -223,5 +223,20 @@ pub fn run(seed: u64, turns: u32) -> Seen {
 fn main() {
     let mut words = std::env::args().skip(1).map(|word| word.parse::<u32>().expect("a number"));
     let (seed, turns) = (words.next().unwrap_or(1), words.next().unwrap_or(200_000));
-    println!("seed {seed}, {turns} turns, {} tasks\n{:#?}", SIZES.len(), run(seed.into(), turns));
+    let seen = run(seed.into(), turns);
+    println!("seed {seed}: {} tasks and a sender, {turns} turns", SIZES.len());
+    println!(
+        "{} jobs begun, {} refused because the record does not fit",
+        seen.jobs_begun, seen.jobs_refused
+    );
+    println!("{} stores made, {} jobs done", seen.stores, seen.jobs_done);
+    println!(
+        "jobs given up: {} before the first store, {} between two stores, {} after the last",
+        seen.cancelled_before_the_first_store, seen.cancelled_between_stores, seen.ended_after_the_last_store
+    );
+    println!("{} copies of the loop, each walked to its end", seen.copies);
+    println!(
+        "slots in the copies: {} as before, {} empty, {} as written, and no other",
+        seen.slots_as_before, seen.slots_empty, seen.slots_as_written
+    );
 }
