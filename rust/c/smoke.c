@@ -78,6 +78,8 @@ static void writing(void) {
     CHECK(told(s2xv2_serialize_into(record, tail, 2, buffer, 19), S2XV2_ROOM, 20, 19, 0));
     record.satellite_id = 16777216;
     CHECK(told(s2xv2_serialize_into(record, tail, 2, buffer, 32), S2XV2_FIELD, 9, 0, 0));
+    record.polarization = 4;
+    CHECK(told(s2xv2_serialize_into(record, tail, 2, buffer, 32), S2XV2_FIELD, 5, 0, 0));
     record.has_timeslice_number = 1;
     CHECK(told(s2xv2_serialized_len(record, tail, 2), S2XV2_INCONSISTENT, 5, 0, 0));
     CHECK(told(s2xv2_serialize_into(record, tail, 2, buffer, 32), S2XV2_INCONSISTENT, 5, 0, 0));
