@@ -2,14 +2,18 @@
 //!
 //!     bench parse|serialize|length crate|library|empty SET REPEATS
 //!     bench allocate crate SET REPEATS
+//!     bench begin library|empty SIZE REPEATS
+//!     bench job value|place|empty SIZE/ALLOWANCE REPEATS
 //!     bench agree                  tells whether both sides do the same on every input
 //!
-//! SET is `mixed`, `no-ids` or `no-tail`. The side `empty` is the loop with no call in it.
+//! SET is `mixed`, `no-ids` or `no-tail`; an ALLOWANCE may be `all`. The side `empty` is the loop with no call in it.
 mod boundary;
 mod inputs;
 mod rows;
+#[cfg(feature = "slots")]
+mod slots;
 
-use inputs::Set;
+use inputs::{bodies, Set};
 use std::process::ExitCode;
 
 fn set(name: &str) -> Option<Set> {
@@ -21,23 +25,38 @@ fn set(name: &str) -> Option<Set> {
     })
 }
 
-fn row(row: &str, side: &str, name: &str, repeats: &str) -> Option<usize> {
+fn row(name: &str, side: &str, inputs: &str, repeats: &str) -> Option<usize> {
     let repeats: usize = repeats.parse().ok()?;
-    let bodies = inputs::bodies(set(name)?);
-    match row {
-        "parse" => rows::parse(side, &bodies, repeats),
-        "serialize" => rows::serialize(side, &bodies, repeats),
-        "length" => rows::length(side, &bodies, repeats),
-        "allocate" => Some(rows::allocate(&bodies, repeats)),
+    match name {
+        "parse" => rows::parse(side, &bodies(set(inputs)?), repeats),
+        "serialize" => rows::serialize(side, &bodies(set(inputs)?), repeats),
+        "length" => rows::length(side, &bodies(set(inputs)?), repeats),
+        "allocate" => Some(rows::allocate(&bodies(set(inputs)?), repeats)),
+        #[cfg(feature = "slots")]
+        "begin" => slots::begin(side, inputs.parse().ok()?, repeats),
+        #[cfg(feature = "slots")]
+        "job" => job(side, inputs, repeats),
         _ => None,
     }
 }
 
+#[cfg(feature = "slots")]
+fn job(side: &str, inputs: &str, repeats: usize) -> Option<usize> {
+    let (size, allowance) = inputs.split_once('/')?;
+    let allowance = match allowance {
+        "all" => usize::MAX,
+        number => number.parse().ok()?,
+    };
+    slots::job(side, size.parse().ok()?, allowance, repeats)
+}
+
 fn agree() -> Option<usize> {
     let sets = [Set::Mixed, Set::NoIds, Set::NoTail];
-    sets.iter()
-        .all(|set| rows::agree(&inputs::bodies(*set)))
-        .then_some(sets.len() * inputs::COUNT)
+    #[cfg(feature = "slots")]
+    let stepped = slots::agree();
+    #[cfg(not(feature = "slots"))]
+    let stepped = true;
+    (stepped && sets.iter().all(|set| rows::agree(&bodies(*set)))).then_some(sets.len() * inputs::COUNT)
 }
 
 fn main() -> ExitCode {
@@ -45,11 +64,11 @@ fn main() -> ExitCode {
     let arguments: Vec<&str> = arguments.iter().map(String::as_str).collect();
     let calls = match arguments[..] {
         ["agree"] => agree(),
-        [name, side, set, repeats] => row(name, side, set, repeats),
+        [name, side, inputs, repeats] => row(name, side, inputs, repeats),
         _ => None,
     };
     let Some(calls) = calls else {
-        eprintln!("no such row, or both sides differ");
+        eprintln!("no such row in this build, or the two sides differ");
         return ExitCode::FAILURE;
     };
     println!("{calls}");

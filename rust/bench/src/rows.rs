@@ -54,7 +54,9 @@ pub fn allocate(bodies: &[Body], repeats: usize) -> usize {
         .iter()
         .map(|body| Record::parse(body.lent()).map_or(0, |record| record.secondary_delivery_system_ids.len()))
         .collect();
-    drive(&counts, repeats, |count| black_box(Vec::<u32>::with_capacity(count)))
+    drive(&counts, repeats, |count| {
+        (count != 0).then(|| black_box(Vec::<u32>::with_capacity(count)))
+    })
 }
 
 fn by_crate<R>(bodies: &[Body], repeats: usize, call: impl FnMut(&Record) -> R) -> usize {
