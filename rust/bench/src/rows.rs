@@ -112,3 +112,23 @@ pub fn agree(bodies: &[Body]) -> bool {
         accepted && record.reserved_tail == own.tail && told == [0, length, 0, record.serialized_len()] && a == b
     })
 }
+
+/// That every mode, flag, bond, selector, number of ids, pair of the superframe's selectors and length of a tail up to 8 comes up, and that
+/// the cut bodies, one in eight, are those that are refused.
+pub fn covered(bodies: &[Body]) -> bool {
+    let mut seen = [0u32; 7];
+    for body in bodies {
+        let r = theirs(&body.bytes);
+        seen[0] |= 1 << r.s2xv2_mode.to_u8();
+        seen[1] |= 1 << u32::from(r.multiple_input_stream_flag);
+        seen[2] |= 1 << r.channel_bond;
+        seen[3] |= 1 << r.scrambling_sequence_selector.map_or(0, |set| 1 + u32::from(set));
+        seen[4] |= 1 << r.secondary_delivery_system_ids.len();
+        if let Some(s) = &r.superframe {
+            seen[5] |= 1 << (2 * u32::from(s.sffi_selector) + u32::from(s.beam_hopping_time_plan_selector));
+        }
+        seen[6] |= 1 << r.reserved_tail.len();
+    }
+    let refused = bodies.iter().filter(|body| Record::parse(body.lent()).is_err()).count();
+    seen == [0xFFFF, 3, 15, 7, 7, 15, 0x1FF] && refused * 8 == bodies.len()
+}
