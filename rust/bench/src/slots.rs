@@ -1,5 +1,5 @@
 //! Beginning a job and making all of its stores. The slots are empty at first and are used again as the job before left them.
-use crate::boundary::{s2xv2_begin, s2xv2_step, s2xv2_step_in_place, Begun, Job};
+use crate::boundary::{s2xv2_begin, s2xv2_step, s2xv2_step_in_place, Begun, Job, Stepped};
 use crate::inputs::{bodies, Set};
 use crate::rows::{drive, own, Own};
 use core::hint::black_box;
@@ -51,16 +51,15 @@ fn jobs(size: usize) -> Vec<Job> {
         .collect()
 }
 
-/// Steps until the job is done, by value: the job is lent to the call and comes back from it.
+/// Steps until the job is done, by value: the job goes to the call and comes back from it.
 #[inline(always)]
-fn by_value(mut job: Job, slot: &mut [u8], allowance: usize) -> Job {
-    loop {
-        let stepped = unsafe { s2xv2_step(job, slot.as_mut_ptr(), slot.len(), black_box(allowance)) };
-        job = stepped.job;
-        if stepped.told.done != 0 || stepped.told.number != 0 {
-            return job;
-        }
+fn by_value(job: &Job, slot: &mut [u8], allowance: usize) -> Stepped {
+    let (place, size) = (slot.as_mut_ptr(), slot.len());
+    let mut stepped = unsafe { s2xv2_step(*job, place, size, black_box(allowance)) };
+    while stepped.told.done == 0 && stepped.told.number == 0 {
+        stepped = unsafe { s2xv2_step(stepped.job, place, size, black_box(allowance)) };
     }
+    stepped
 }
 
 /// The same where the job stands, which is at its start again afterwards.
@@ -92,7 +91,7 @@ pub fn job(side: &str, size: usize, allowance: usize, repeats: usize) -> Option<
     let (mut jobs, mut slot) = (jobs(size), empty_slot(size));
     let jobs: Vec<*mut Job> = jobs.iter_mut().map(core::ptr::from_mut).collect();
     Some(match side {
-        "value" => drive(&jobs, repeats, |job| by_value(unsafe { *job }, &mut slot, allowance)),
+        "value" => drive(&jobs, repeats, |job| by_value(unsafe { &*job }, &mut slot, allowance)),
         "place" => drive(&jobs, repeats, |job| in_place(job, &mut slot, allowance)),
         "empty" => drive(&jobs, repeats, |_| turns(size, allowance)),
         _ => return None,
@@ -104,7 +103,7 @@ pub fn agree() -> bool {
     [21, 64, 257].into_iter().all(|size| {
         jobs(size).iter_mut().all(|job| {
             let (mut a, mut b) = (empty_slot(size), empty_slot(size));
-            by_value(*job, &mut a, 8);
+            by_value(job, &mut a, 8);
             in_place(job, &mut b, 1);
             a == b && a[0] == 0x7F && a[2..job.descriptor_size] == job.staged[2..job.descriptor_size]
         })
