@@ -1,11 +1,17 @@
-//! Links the library's archive: `$S2XV2_LIB`, or without that variable `target/staticlib/libcapi.a`, seen from the repository's root.
+//! Links the library's archive, libcapi.a. `$S2XV2_LIB` is that file or its folder; without that variable the folder is `target/staticlib`,
+//! seen from the repository's root.
 use std::env;
 use std::path::{Path, PathBuf};
 
 fn archive() -> PathBuf {
-    match env::var("S2XV2_LIB") {
-        Ok(file) => PathBuf::from(file),
-        Err(_) => Path::new(&env::var("CARGO_MANIFEST_DIR").unwrap()).join("../../target/staticlib/libcapi.a"),
+    let place = match env::var("S2XV2_LIB") {
+        Ok(place) => PathBuf::from(place),
+        Err(_) => Path::new(&env::var("CARGO_MANIFEST_DIR").unwrap()).join("../../target/staticlib"),
+    };
+    if place.is_dir() {
+        place.join("libcapi.a")
+    } else {
+        place
     }
 }
 
