@@ -24,13 +24,7 @@ use s2xv2::answer::Answer;
 pub extern "C" fn s2xv2_parse(sel: &[u8]) -> FlatParsed
     ensures { λ r. ⌜ r ≡ record { answer = answerOut (readOf (now (sel .entry)) .told); body = recordOut (readOf (now (sel .entry)) .body) } ⌝ }
 {
-    let parsed = reader::parse(sel);
-    let answer = parsed.answer;
-    let body = parsed.body;
-    FlatParsed {
-        answer: answer_out(answer),
-        body: record_out(body),
-    }
+    reader::parse_flat(sel)
 }
 
 // `reserved_tail` of the library: where the tail stands in the body, or the empty part at its start for a body that is refused.

@@ -123,11 +123,7 @@ fn advanced(
 // `Job::step` of the library for a job where it stands: its bytes are lent on, and the one number that a step changes is stored. A refused step stores
 // nothing and leaves the job as it was.
 #[no_mangle]
-pub extern "C" fn s2xv2_step_in_place(
-    job: &mut Job,
-    s: &mut [u8],
-    allowance: usize,
-) -> FlatAdvanced
+pub extern "C" fn s2xv2_step_in_place(job: &mut Job, s: &mut [u8], allowance: usize) -> FlatAdvanced
     ensures { λ r. ⌜ (r ≡ advancedOut (stepOf (now (job .entry)) (length (now (s .entry))) allowance)) × ((now (job .exit) ≡ stepOf (now (job .entry)) (length (now (s .entry))) allowance .job) × (now (s .exit) ≡ slotAfter (now (job .entry)) (now (s .entry)) allowance)) ⌝ }
 {
     let n = job.slot_size;

@@ -4,6 +4,7 @@ use Prim.Native.Nat.{ℕ, _+_, _≤_, _<_}
 use mathlib.Core.List.{List}
 use mathlib.Core.Bool.{Bool}
 use lib.ListN.{length}
+use Rattle.s2xv2.specs.Options.{orZero32}
 use Rattle.s2xv2.specs.Read.{only, bondSize, superframeSize, reserved6At, indexAt, reserved7At, countIf, firstIdAt, secondIdAt}
 use Rattle.s2xv2.specs.declared.layout.Present.{Present}
 use Rattle.s2xv2.specs.declared.layout.Ends.{Ends}
@@ -11,7 +12,7 @@ use Rattle.reader.specs.declared.parts.Scrambling.{Scrambling}
 use Rattle.reader.specs.declared.parts.Bonds.{Bonds}
 
 abbrev pub scramblingAt : List ℕ → ℕ → Bool → Scrambling
-scramblingAt s p there = record { reserved = reserved6At s p there; index = indexAt s p there }
+scramblingAt s p there = record { reserved = reserved6At s p there; index = orZero32 (indexAt s p there) }
 
 abbrev pub bondsAt : List ℕ → ℕ → Bool → Bool → Bonds
 bondsAt s p there second = record {

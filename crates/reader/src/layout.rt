@@ -4,7 +4,7 @@ ghost use mathlib.Core.List.{[], _∷_};
 ghost use Prim.Native.Nat.{_+_, _≤_, _<_};
 ghost use lib.ListN.{length};
 ghost use lib.Dec.{eqb};
-ghost use Rattle.wire.specs.Flags.{and};
+ghost use Rattle.wire.specs.Flags.{and, not};
 ghost use Rattle.s2xv2.specs.Answer.{numbers};
 ghost use Rattle.s2xv2.specs.Read.{only, presentIn, endsOf, bondSize, superframeSize, planSize, needs, shortTold};
 ghost use Rattle.s2xv2.specs.declared.answer.Refusal.the-variants.{Short};
@@ -18,10 +18,17 @@ use wire::field::field;
 use wire::field::flag;
 
 // Both flags are set.
-fn both(a: bool, b: bool) -> bool
+pub(crate) fn both(a: bool, b: bool) -> bool
     ensures { λ r. ⌜ r ≡ and a b ⌝ }
 {
     if a { b } else { false }
+}
+
+// The second flag is set, and the first is not.
+pub(crate) fn without(a: bool, b: bool) -> bool
+    ensures { λ r. ⌜ r ≡ and (not a) b ⌝ }
+{
+    if a { false } else { b }
 }
 
 fn equals(a: u8, b: u8) -> bool

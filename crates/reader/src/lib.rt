@@ -1,8 +1,13 @@
 // Reads the body of an S2Xv2 satellite delivery system descriptor.
 ghost use mathlib.Core.Path.{_≡_};
-ghost use Rattle.s2xv2.specs.Default.{defaultRecord};
 ghost use Rattle.s2xv2.specs.Read.{readOf, tailOf};
-ghost use Rattle.reader.specs.Seen.{seen, refusal};
+ghost use Rattle.reader.specs.Seen.{seen, flatSeen, flatRefusal, answerIn};
+use flat::input::record_in;
+use flat::output::answer_of;
+use flat::output::record_out;
+use flat::output::refusal_out;
+use flat::types::FlatAnswer;
+use flat::types::FlatParsed;
 use s2xv2::answer::Answer;
 use s2xv2::answer::Refusal;
 use s2xv2::answer::saturated;
@@ -20,19 +25,18 @@ pub struct Parsed {
 }
 
 // A refused body shows the default record.
-fn refused(why: Refusal) -> Parsed
-    ensures { λ r. ⌜ r ≡ refusal why ⌝ }
+fn refused(why: Refusal) -> FlatParsed
+    ensures { λ r. ⌜ r ≡ flatRefusal why ⌝ }
 {
-    Parsed {
-        answer: Answer::Refused(why),
-        body: S2Xv2SatelliteDeliverySystem::default(),
+    FlatParsed {
+        answer: refusal_out(why),
+        body: record_out(S2Xv2SatelliteDeliverySystem::default()),
     }
 }
 
-// The record of the body `sel`. Refuses a body of more than 4,096 bytes, and one that ends inside a part that its mode, flags
-// and bond count ask for.
-pub fn parse(sel: &[u8]) -> Parsed
-    ensures { λ r. ⌜ seen r ≡ readOf (now (sel .entry)) ⌝ }
+// What `parse` answers, as plain numbers: the reader itself.
+pub fn parse_flat(sel: &[u8]) -> FlatParsed
+    ensures { λ r. ⌜ r ≡ flatSeen (readOf (now (sel .entry))) ⌝ }
 {
     let have = sel.len();
     if 4096 < have {
@@ -49,9 +53,42 @@ pub fn parse(sel: &[u8]) -> Parsed
     if have < end {
         return refused(layout::missing(have, e));
     }
-    Parsed {
-        answer: Answer::Accepted(end),
+    FlatParsed {
+        answer: answer_of(0, end, 0, 0),
         body: record::record_at(sel, k, e),
+    }
+}
+
+// The answer of a reading, which is accepted, too long, or ends inside a part.
+fn answer_in(a: FlatAnswer) -> Answer
+    ensures { λ r. ⌜ r ≡ answerIn a ⌝ }
+{
+    if a.number == 0 {
+        return Answer::Accepted(a.first);
+    }
+    if a.number == 2 {
+        return Answer::Refused(Refusal::Long {
+            length: (a.first % 65536) as u16,
+        });
+    }
+    Answer::Refused(Refusal::Short {
+        place: (a.first % 256) as u8,
+        need: a.second,
+        have: a.third,
+    })
+}
+
+// The record of the body `sel`. Refuses a body of more than 4,096 bytes, and one that ends inside a part that its mode, flags
+// and bond count ask for.
+pub fn parse(sel: &[u8]) -> Parsed
+    ensures { λ r. ⌜ seen r ≡ readOf (now (sel .entry)) ⌝ }
+{
+    let flat = parse_flat(sel);
+    let answer = flat.answer;
+    let body = flat.body;
+    Parsed {
+        answer: answer_in(answer),
+        body: record_in(body),
     }
 }
 

@@ -1,28 +1,27 @@
-// What the conditional parts hold. Each function is told whether its part is there, and requires that the body reaches its end.
+// What the conditional parts hold, as plain numbers, 0 where a part is absent. Each function is told whether its part is there, and requires that the body
+// reaches its end.
 ghost use mathlib.Core.Path.{_≡_};
 ghost use Prim.Native.Nat.{_+_, _≤_, _<_};
 ghost use lib.ListN.{length};
 ghost use Rattle.wire.specs.Flags.{when};
-ghost use Rattle.s2xv2.specs.Options.{someBoolIf, some8If, someSuperframeIf};
-ghost use Rattle.s2xv2.specs.Read.{only, bondSize, superframeSize, byteAt, planAt, superframeAt};
+ghost use Rattle.s2xv2.specs.Options.{orZero8, orZero32, some8If};
+ghost use Rattle.s2xv2.specs.Read.{only, bondSize, superframeSize, byteAt, planAt};
 ghost use Rattle.reader.specs.Parts.{scramblingAt, bondsAt};
+ghost use Rattle.reader.specs.Flat.{flatBlockAt};
 use crate::bytes::be32;
 use crate::bytes::byte;
 use crate::bytes::low18;
 use crate::bytes::low20;
 use crate::bytes::octet;
-use s2xv2::option::OptionBool;
-use s2xv2::option::OptionU8;
-use s2xv2::option::OptionU32;
-use s2xv2::superframe::OptionSuperframe;
-use s2xv2::superframe::S2Xv2Superframe;
+use flat::types::FlatSuperframe;
+use wire::field::bit_of;
 use wire::field::field;
 use wire::field::flag;
 
 // The scrambling sequence index, and what is reserved before it.
 pub(crate) struct Scrambling {
     pub reserved: u8,
-    pub index: OptionU32,
+    pub index: u32,
 }
 
 // The channel bonds: how many, their ids, and what is reserved before their count.
@@ -34,15 +33,11 @@ pub(crate) struct Bonds {
 }
 
 // A part of one byte: the input stream identifier, and the timeslice number.
-pub(crate) fn byte_at(s: &[u8], p: usize, there: bool) -> OptionU8
+pub(crate) fn byte_at(s: &[u8], p: usize, there: bool) -> u8
     requires { ⌜ p + only there 1 ≤ length (now s) ⌝ }
-    ensures { λ r. ⌜ r ≡ byteAt (now (s .entry)) p there ⌝ }
+    ensures { λ r. ⌜ r ≡ orZero8 (byteAt (now (s .entry)) p there) ⌝ }
 {
-    if there {
-        OptionU8::Some(octet(s, p))
-    } else {
-        OptionU8::None
-    }
+    if there { octet(s, p) } else { 0 }
 }
 
 pub(crate) fn scrambling_at(s: &[u8], p: usize, there: bool) -> Scrambling
@@ -52,12 +47,12 @@ pub(crate) fn scrambling_at(s: &[u8], p: usize, there: bool) -> Scrambling
     if there {
         Scrambling {
             reserved: field(byte(s, p), 4, 64),
-            index: OptionU32::Some(low18(s, p)),
+            index: low18(s, p),
         }
     } else {
         Scrambling {
             reserved: 0,
-            index: OptionU32::None,
+            index: 0,
         }
     }
 }
@@ -92,43 +87,25 @@ pub(crate) fn bonds_at(s: &[u8], p: usize, there: bool, second: bool) -> Bonds
     }
 }
 
-// A value that a flag says is there, and one that stands only where the flag is clear.
-pub(crate) fn some_bool_if(there: bool, v: bool) -> OptionBool
-    ensures { λ r. ⌜ r ≡ someBoolIf there v ⌝ }
-{
-    if there {
-        OptionBool::Some(v)
-    } else {
-        OptionBool::None
-    }
-}
-
-fn some_u8_if(there: bool, v: u8) -> OptionU8
-    ensures { λ r. ⌜ r ≡ some8If there v ⌝ }
-{
-    if there {
-        OptionU8::Some(v)
-    } else {
-        OptionU8::None
-    }
-}
-
-pub(crate) fn unless(taken: bool, v: u8) -> u8
+// A number that stands only where a flag is clear, and one that stands only where it is set.
+fn unless(taken: bool, v: u8) -> u8
     ensures { λ r. ⌜ r ≡ when taken 0 v ⌝ }
 {
     if taken { 0 } else { v }
 }
 
-// The plan id of a superframe block, and where the block's last byte stands.
-fn plan_at(s: &[u8], p: usize, plan: bool) -> OptionU32
-    requires { ⌜ p + superframeSize plan ≤ length (now s) ⌝ }
-    ensures { λ r. ⌜ r ≡ planAt (now (s .entry)) p plan ⌝ }
+fn given(set: bool, v: u8) -> u8
+    ensures { λ r. ⌜ r ≡ orZero8 (some8If set v) ⌝ }
 {
-    if plan {
-        OptionU32::Some(be32(s, p + 7))
-    } else {
-        OptionU32::None
-    }
+    if set { v } else { 0 }
+}
+
+// The plan id of a superframe block, and where the block's last byte stands.
+fn plan_at(s: &[u8], p: usize, plan: bool) -> u32
+    requires { ⌜ p + superframeSize plan ≤ length (now s) ⌝ }
+    ensures { λ r. ⌜ r ≡ orZero32 (planAt (now (s .entry)) p plan) ⌝ }
+{
+    if plan { be32(s, p + 7) } else { 0 }
 }
 
 fn last_at(p: usize, plan: bool) -> usize
@@ -139,36 +116,27 @@ fn last_at(p: usize, plan: bool) -> usize
 }
 
 // The superframe block from `p` on.
-fn block_at(s: &[u8], p: usize, plan: bool) -> S2Xv2Superframe
+pub(crate) fn block_at(s: &[u8], p: usize, plan: bool) -> FlatSuperframe
     requires { ⌜ (p < 100) × (p + superframeSize plan ≤ length (now s)) ⌝ }
-    ensures { λ r. ⌜ r ≡ superframeAt (now (s .entry)) p plan ⌝ }
+    ensures { λ r. ⌜ r ≡ flatBlockAt (now (s .entry)) p plan ⌝ }
 {
     let end = byte(s, last_at(p, plan));
     let selectors = byte(s, p + 1);
-    let sffi_selector = flag(selectors, 128);
+    let sffi = flag(selectors, 128);
     let nibble = field(byte(s, p + 4), 16, 16);
-    S2Xv2Superframe {
-        sosf_wh_sequence_number: octet(s, p),
-        sffi_selector,
-        beam_hopping_time_plan_selector: flag(selectors, 64),
-        reserved_zero_future_use_2: field(selectors, 16, 4),
+    FlatSuperframe {
         reference_scrambling_index: low20(s, p + 1),
-        sffi: some_u8_if(sffi_selector, nibble),
-        reserved_zero_future_use_4: unless(sffi_selector, nibble),
         payload_scrambling_index: low20(s, p + 4),
         beamhopping_time_plan_id: plan_at(s, p, plan),
+        sosf_wh_sequence_number: octet(s, p),
+        sffi_selector: bit_of(sffi),
+        beam_hopping_time_plan_selector: bit_of(flag(selectors, 64)),
+        reserved_zero_future_use_2: field(selectors, 16, 4),
+        has_sffi: bit_of(sffi),
+        sffi: given(sffi, nibble),
+        reserved_zero_future_use_4: unless(sffi, nibble),
+        has_beamhopping_time_plan_id: bit_of(plan),
         superframe_pilots_wh_sequence_number: field(end, 8, 32),
         postamble_pli: field(end, 1, 8),
-    }
-}
-
-pub(crate) fn superframe_at(s: &[u8], p: usize, there: bool, plan: bool) -> OptionSuperframe
-    requires { ⌜ (p < 100) × (p + only there (superframeSize plan) ≤ length (now s)) ⌝ }
-    ensures { λ r. ⌜ r ≡ someSuperframeIf there (superframeAt (now (s .entry)) p plan) ⌝ }
-{
-    if there {
-        OptionSuperframe::Some(block_at(s, p, plan))
-    } else {
-        OptionSuperframe::None
     }
 }

@@ -1,84 +1,31 @@
--- `reader::parse` meets its contract: the laws of the answer say what a body reads as that is too long, too short, or neither.
+-- `reader::parse` meets its contract: the numbers of the reading mean its answer, and what crossed out comes in again.
 -- Assumes nothing.
-use mathlib.Core.Path.{sym, ap, _∙_}
+use mathlib.Core.Path.{_≡_, ap, _∙_}
 use denote.Ref.{now}
-use Rattle.s2xv2.specs.Read.{bodySize}
-use Rattle.s2xv2.specs.declared.answer.Refusal.the-variants.{Long}
-use Rattle.s2xv2.proofs.Reach.{told-long, told-core, told-within, reads-accepted, reads-refused}
-use Rattle.reader.specs.Seen.{seen}
-use Rattle.reader.proofs.Laws.{reached}
+use Rattle.flat.specs.declared.types.FlatParsed.{FlatParsed}
+use Rattle.flat.specs.Input.{recordIn}
+use Rattle.s2xv2.specs.Answer.{told}
+use Rattle.reader.specs.Seen.{answerIn}
+use Rattle.flat.proofs.Back.{back}
+use Rattle.reader.proofs.Flat.{told-in}
 use borrow.Author.Needs.{needs}
 use Rattle.reader.proofs.parse.Statement.{statement}
 use Rattle.reader.proofs.parse.Tie as tie
 
-saturated-requires : tie.Need-saturated-requires
-saturated-requires c κs = search needs
+parse-flat-requires : tie.Need-parse-flat-requires
+parse-flat-requires c κs = search needs
 
-refused-requires : tie.Need-refused-requires
-refused-requires c κs = search needs
+answer-in-requires : tie.Need-answer-in-requires
+answer-in-requires c κs = search needs
+
+record-in-requires : tie.Need-record-in-requires
+record-in-requires c κs = search needs
 
 returns : tie.Need-returns
 returns c =
-    let s = now (c .before .before .before .before .args .sel) in
-    ap seen (c .refused .ensures) ∙ sym (reads-refused s (Long (c .before .saturated .result)) (rw (c .before .saturated .ensures) (sym (told-long s (c .before .before .if1 .taken)))))
-
-short-requires : tie.Need-short-requires
-short-requires c κs = search needs
-
-refused-requires-2 : tie.Need-refused-requires-2
-refused-requires-2 c κs = search needs
-
-returns-2 : tie.Need-returns-2
-returns-2 c =
-    let s = now (c .before .before .before .before .before .args .sel) in
-    ap seen (c .refused2 .ensures) ∙ sym (reads-refused s (c .before .short .result) (rw (c .before .short .ensures) (sym (told-core s (c .before .before .if2 .taken)))))
-
-present-in-requires : tie.Need-present-in-requires
-present-in-requires c κs = search needs
-
-ends-of-requires : tie.Need-ends-of-requires
-ends-of-requires c κs = search needs
-
-missing-requires : tie.Need-missing-requires
-missing-requires c κs = search needs
-
-refused-requires-3 : tie.Need-refused-requires-3
-refused-requires-3 c κs = search needs
-
-returns-3 : tie.Need-returns-3
-unfolding bodySize
-returns-3 c =
-    let s = now (c .before .before .before .before .before .before .before .before .args .sel) in
-    let e = simp (c .before .before .before .ends-of .ensures, c .before .before .before .before .present-in .ensures) at (c .before .missing .ensures) in
-    ap seen (c .refused3 .ensures) ∙ sym (reads-refused s (c .before .missing .result) (e ∙ sym (told-within s (c .before .before .before .before .before .before .if1 .left))))
-
-record-at-requires : tie.Need-record-at-requires
-record-at-requires c κs =
     let s = now (c .before .before .before .before .before .before .args .sel) in
-    rw (c .before .ends-of .ensures, c .before .before .present-in .ensures)
-    (reached s _ (rw (c .before .ends-of .ensures, c .before .before .present-in .ensures) at (c .if3 .left)))
-
-returns-4 : tie.Need-returns-4
-unfolding bodySize
-returns-4 c =
-    let s = now (c .before .before .before .before .before .before .before .args .sel) in
-    let h = rw (c .before .before .ends-of .ensures, c .before .before .before .present-in .ensures) at (c .before .if3 .left) in
-    simp (c .record-at .ensures, c .before .before .ends-of .ensures, c .before .before .before .present-in .ensures) (sym (reads-accepted s h (c .before .before .before .before .before .if1 .left)))
+    let e = c .before .before .before .before .parse-flat .ensures in
+    simp (c .before .answer-in .ensures, c .record-in .ensures, ap (λ (x : FlatParsed). x .answer) e, ap (λ (x : FlatParsed). x .body) e, back, told-in s)
 
 pub parse-spec : {M : Type 1} → statement M
-parse-spec =
-    tie.close
-    (tie.spec
-    saturated-requires
-    refused-requires
-    returns
-    short-requires
-    refused-requires-2
-    returns-2
-    present-in-requires
-    ends-of-requires
-    missing-requires
-    refused-requires-3
-    returns-3
-    record-at-requires
-    returns-4)
+parse-spec = tie.close (tie.spec parse-flat-requires answer-in-requires record-in-requires returns)

@@ -1,6 +1,6 @@
 -- `reader::parts::block_at` meets its contract: each call gives the field that the definition cuts there.
 -- Assumes nothing.
-use Rattle.s2xv2.specs.Read.{superframeAt}
+use Rattle.reader.specs.Flat.{flatBlockAt}
 use borrow.Author.Needs.{needs}
 use Rattle.reader.proofs.parts.block_at.Statement.{statement}
 use Rattle.reader.proofs.parts.block_at.Tie as tie
@@ -29,26 +29,11 @@ byte-requires-3 c κs = search needs
 field-requires : tie.Need-field-requires
 field-requires c κs = search needs
 
-octet-requires : tie.Need-octet-requires
-octet-requires c κs = search needs
-
-flag-requires-2 : tie.Need-flag-requires-2
-flag-requires-2 c κs = search needs
-
-field-requires-2 : tie.Need-field-requires-2
-field-requires-2 c κs = search needs
-
 add-low20 : tie.Need-add-low20
 add-low20 c = search needs
 
 low20-requires : tie.Need-low20-requires
 low20-requires c κs = search needs
-
-some-u8-if-requires : tie.Need-some-u8-if-requires
-some-u8-if-requires c κs = search needs
-
-unless-requires : tie.Need-unless-requires
-unless-requires c κs = search needs
 
 add-low20-2 : tie.Need-add-low20-2
 add-low20-2 c = search needs
@@ -59,6 +44,33 @@ low20-requires-2 c κs = search needs
 plan-at-requires : tie.Need-plan-at-requires
 plan-at-requires c κs = search needs
 
+octet-requires : tie.Need-octet-requires
+octet-requires c κs = search needs
+
+bit-of-requires : tie.Need-bit-of-requires
+bit-of-requires c κs = search needs
+
+flag-requires-2 : tie.Need-flag-requires-2
+flag-requires-2 c κs = search needs
+
+bit-of-requires-2 : tie.Need-bit-of-requires-2
+bit-of-requires-2 c κs = search needs
+
+field-requires-2 : tie.Need-field-requires-2
+field-requires-2 c κs = search needs
+
+bit-of-requires-3 : tie.Need-bit-of-requires-3
+bit-of-requires-3 c κs = search needs
+
+given-requires : tie.Need-given-requires
+given-requires c κs = search needs
+
+unless-requires : tie.Need-unless-requires
+unless-requires c κs = search needs
+
+bit-of-requires-4 : tie.Need-bit-of-requires-4
+bit-of-requires-4 c κs = search needs
+
 field-requires-3 : tie.Need-field-requires-3
 field-requires-3 c κs = search needs
 
@@ -66,25 +78,29 @@ field-requires-4 : tie.Need-field-requires-4
 field-requires-4 c κs = search needs
 
 returns : tie.Need-returns
-unfolding superframeAt
+unfolding flatBlockAt
 returns c =
     simp (
       c .field4 .ensures,
       c .before .field3 .ensures,
-      c .before .before .plan-at .ensures,
-      c .before .before .before .low202 .ensures,
-      c .before .before .before .before .unless .ensures,
-      c .before .before .before .before .before .some-u8-if .ensures,
-      c .before .before .before .before .before .before .low20 .ensures,
-      c .before .before .before .before .before .before .before .field2 .ensures,
+      c .before .before .bit-of4 .ensures .0,
+      c .before .before .before .unless .ensures,
+      c .before .before .before .before .given .ensures,
+      c .before .before .before .before .before .bit-of3 .ensures .0,
+      c .before .before .before .before .before .before .field2 .ensures,
+      c .before .before .before .before .before .before .before .bit-of2 .ensures .0,
       c .before .before .before .before .before .before .before .before .flag2 .ensures,
-      c .before .before .before .before .before .before .before .before .before .octet .ensures,
-      c .before .before .before .before .before .before .before .before .before .before .field .ensures,
-      c .before .before .before .before .before .before .before .before .before .before .before .byte3 .ensures .0,
-      c .before .before .before .before .before .before .before .before .before .before .before .before .flag .ensures,
-      c .before .before .before .before .before .before .before .before .before .before .before .before .before .byte2 .ensures .0,
-      c .before .before .before .before .before .before .before .before .before .before .before .before .before .before .byte .ensures .0,
-      c .before .before .before .before .before .before .before .before .before .before .before .before .before .before .before .last-at .ensures .0,
+      c .before .before .before .before .before .before .before .before .before .bit-of .ensures .0,
+      c .before .before .before .before .before .before .before .before .before .before .octet .ensures,
+      c .before .before .before .before .before .before .before .before .before .before .before .plan-at .ensures,
+      c .before .before .before .before .before .before .before .before .before .before .before .before .low202 .ensures,
+      c .before .before .before .before .before .before .before .before .before .before .before .before .before .low20 .ensures,
+      c .before .before .before .before .before .before .before .before .before .before .before .before .before .before .field .ensures,
+      c .before .before .before .before .before .before .before .before .before .before .before .before .before .before .before .byte3 .ensures .0,
+      c .before .before .before .before .before .before .before .before .before .before .before .before .before .before .before .before .flag .ensures,
+      c .before .before .before .before .before .before .before .before .before .before .before .before .before .before .before .before .before .byte2 .ensures .0,
+      c .before .before .before .before .before .before .before .before .before .before .before .before .before .before .before .before .before .before .byte .ensures .0,
+      c .before .before .before .before .before .before .before .before .before .before .before .before .before .before .before .before .before .before .before .last-at .ensures .0,
     )
 
 pub block-at-spec : {M : Type 1} → statement M
@@ -99,16 +115,20 @@ block-at-spec =
     add-byte-2
     byte-requires-3
     field-requires
-    octet-requires
-    flag-requires-2
-    field-requires-2
     add-low20
     low20-requires
-    some-u8-if-requires
-    unless-requires
     add-low20-2
     low20-requires-2
     plan-at-requires
+    octet-requires
+    bit-of-requires
+    flag-requires-2
+    bit-of-requires-2
+    field-requires-2
+    bit-of-requires-3
+    given-requires
+    unless-requires
+    bit-of-requires-4
     field-requires-3
     field-requires-4
     returns)

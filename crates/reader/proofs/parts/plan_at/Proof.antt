@@ -15,7 +15,7 @@ returns : tie.Need-returns
 returns c = simp (c .before .if1 .taken, c .be32 .ensures)
 
 returns-2 : tie.Need-returns-2
-returns-2 c = simp (c .if1 .left)
+returns-2 c = search needs
 
 pub plan-at-spec : {M : Type 1} → statement M
 plan-at-spec = tie.close (tie.spec add-be32 be32-requires returns returns-2)

@@ -1,48 +1,36 @@
--- `reader::record::record_at` meets its contract: each call gives a part as the definition has it.
+-- `reader::record::record_at` meets its contract: the test says which block it is.
 -- Assumes nothing.
-use Rattle.s2xv2.specs.Read.{recordAt}
+use mathlib.Core.Path.{_∙_}
+use Rattle.reader.proofs.Flat.{flat-block, flat-record}
 use borrow.Author.Needs.{needs}
 use Rattle.reader.proofs.record.record_at.Statement.{statement}
 use Rattle.reader.proofs.record.record_at.Tie as tie
 
-byte-at-requires : tie.Need-byte-at-requires
-byte-at-requires c κs = search needs
-
-scrambling-at-requires : tie.Need-scrambling-at-requires
-scrambling-at-requires c κs = search needs
-
-byte-at-requires-2 : tie.Need-byte-at-requires-2
-byte-at-requires-2 c κs = search needs
-
-bonds-at-requires : tie.Need-bonds-at-requires
-bonds-at-requires c κs = search needs
-
-superframe-at-requires : tie.Need-superframe-at-requires
-superframe-at-requires c κs = search needs
+block-at-requires : tie.Need-block-at-requires
+block-at-requires c κs = (c .before .before .pre .small, rw (c .if1 .taken) at (c .before .before .pre .superframe))
 
 record-of-requires : tie.Need-record-of-requires
-record-of-requires c κs = search needs
+record-of-requires c κs = (c .before .before .before .pre, simp (c .before .if1 .taken, c .block-at .ensures, flat-block))
 
 returns : tie.Need-returns
-unfolding recordAt
-returns c =
-    simp (
-      c .record-of .ensures,
-      c .before .superframe-at .ensures,
-      c .before .before .bonds-at .ensures,
-      c .before .before .before .byte-at2 .ensures,
-      c .before .before .before .before .scrambling-at .ensures,
-      c .before .before .before .before .before .byte-at .ensures,
-    )
+returns c = c .record-of .ensures ∙ flat-record _ _ _
+
+no-block-requires : tie.Need-no-block-requires
+no-block-requires c κs = search needs
+
+record-of-requires-2 : tie.Need-record-of-requires-2
+record-of-requires-2 c κs = (c .before .before .before .pre, simp (c .before .if1 .left, c .no-block .ensures))
+
+returns-2 : tie.Need-returns-2
+returns-2 c = c .record-of2 .ensures ∙ flat-record _ _ _
 
 pub record-at-spec : {M : Type 1} → statement M
 record-at-spec =
     tie.close
     (tie.spec
-    byte-at-requires
-    scrambling-at-requires
-    byte-at-requires-2
-    bonds-at-requires
-    superframe-at-requires
+    block-at-requires
     record-of-requires
-    returns)
+    returns
+    no-block-requires
+    record-of-requires-2
+    returns-2)

@@ -1,9 +1,22 @@
 -- `reader::record::record_of` meets its contract: each call gives the field that the definition cuts there.
 -- Assumes nothing.
 use native.Mathlib.Omega.{arith}
+use Rattle.reader.specs.Flat.{flatRecordAt}
 use borrow.Author.Needs.{needs}
 use Rattle.reader.proofs.record.record_of.Statement.{statement}
 use Rattle.reader.proofs.record.record_of.Tie as tie
+
+byte-at-requires : tie.Need-byte-at-requires
+byte-at-requires c κs = search needs
+
+scrambling-at-requires : tie.Need-scrambling-at-requires
+scrambling-at-requires c κs = search needs
+
+byte-at-requires-2 : tie.Need-byte-at-requires-2
+byte-at-requires-2 c κs = search needs
+
+bonds-at-requires : tie.Need-bonds-at-requires
+bonds-at-requires c κs = search needs
 
 byte-requires : tie.Need-byte-requires
 byte-requires c κs = search needs
@@ -13,6 +26,9 @@ byte-requires-2 c κs = search needs
 
 byte-requires-3 : tie.Need-byte-requires-3
 byte-requires-3 c κs = search needs
+
+flag-requires : tie.Need-flag-requires
+flag-requires c κs = search needs
 
 field-requires : tie.Need-field-requires
 field-requires c κs = search needs
@@ -26,8 +42,23 @@ has-scrambling-selector-requires c κs = search needs
 be32-requires : tie.Need-be32-requires
 be32-requires c κs = search needs
 
-flag-requires : tie.Need-flag-requires
-flag-requires c κs = search needs
+be24-requires : tie.Need-be24-requires
+be24-requires c κs = search needs
+
+be32-requires-2 : tie.Need-be32-requires-2
+be32-requires-2 c κs = omega (arith, c .before .before .before .before .before .before .before .before .before .before .before .before .before .before .pre .0 .core)
+
+be32-requires-3 : tie.Need-be32-requires-3
+be32-requires-3 c κs = omega (arith, c .before .before .before .before .before .before .before .before .before .before .before .before .before .before .before .pre .0 .core)
+
+is-reserved-requires : tie.Need-is-reserved-requires
+is-reserved-requires c κs = search needs
+
+flag-requires-2 : tie.Need-flag-requires-2
+flag-requires-2 c κs = search needs
+
+bit-of-requires : tie.Need-bit-of-requires
+bit-of-requires c κs = search needs
 
 field-requires-2 : tie.Need-field-requires-2
 field-requires-2 c κs = search needs
@@ -35,11 +66,17 @@ field-requires-2 c κs = search needs
 field-requires-3 : tie.Need-field-requires-3
 field-requires-3 c κs = search needs
 
-flag-requires-2 : tie.Need-flag-requires-2
-flag-requires-2 c κs = search needs
-
 flag-requires-3 : tie.Need-flag-requires-3
 flag-requires-3 c κs = search needs
+
+bit-of-requires-2 : tie.Need-bit-of-requires-2
+bit-of-requires-2 c κs = search needs
+
+flag-requires-4 : tie.Need-flag-requires-4
+flag-requires-4 c κs = search needs
+
+bit-of-requires-3 : tie.Need-bit-of-requires-3
+bit-of-requires-3 c κs = search needs
 
 field-requires-4 : tie.Need-field-requires-4
 field-requires-4 c κs = search needs
@@ -47,86 +84,122 @@ field-requires-4 c κs = search needs
 field-requires-5 : tie.Need-field-requires-5
 field-requires-5 c κs = search needs
 
-flag-requires-4 : tie.Need-flag-requires-4
-flag-requires-4 c κs = search needs
+bit-of-requires-4 : tie.Need-bit-of-requires-4
+bit-of-requires-4 c κs = search needs
 
-some-bool-if-requires : tie.Need-some-bool-if-requires
-some-bool-if-requires c κs = search needs
+both-requires : tie.Need-both-requires
+both-requires c κs = search needs
+
+bit-of-requires-5 : tie.Need-bit-of-requires-5
+bit-of-requires-5 c κs = search needs
+
+without-requires : tie.Need-without-requires
+without-requires c κs = search needs
+
+bit-of-requires-6 : tie.Need-bit-of-requires-6
+bit-of-requires-6 c κs = search needs
 
 field-requires-6 : tie.Need-field-requires-6
 field-requires-6 c κs = search needs
 
-unless-requires : tie.Need-unless-requires
-unless-requires c κs = search needs
-
 field-requires-7 : tie.Need-field-requires-7
 field-requires-7 c κs = search needs
 
-field-requires-8 : tie.Need-field-requires-8
-field-requires-8 c κs = search needs
+bit-of-requires-7 : tie.Need-bit-of-requires-7
+bit-of-requires-7 c κs = search needs
 
-be24-requires : tie.Need-be24-requires
-be24-requires c κs = omega (arith, c .before .before .before .before .before .before .before .before .before .before .before .before .before .before .before .before .before .before .before .before .before .pre)
+bit-of-requires-8 : tie.Need-bit-of-requires-8
+bit-of-requires-8 c κs = search needs
 
-be32-requires-2 : tie.Need-be32-requires-2
-be32-requires-2 c κs = omega (arith, c .before .before .before .before .before .before .before .before .before .before .before .before .before .before .before .before .before .before .before .before .before .before .pre)
+bit-of-requires-9 : tie.Need-bit-of-requires-9
+bit-of-requires-9 c κs = search needs
 
-be32-requires-3 : tie.Need-be32-requires-3
-be32-requires-3 c κs = omega (arith, c .before .before .before .before .before .before .before .before .before .before .before .before .before .before .before .before .before .before .before .before .before .before .before .pre)
+bit-of-requires-10 : tie.Need-bit-of-requires-10
+bit-of-requires-10 c κs = search needs
 
 returns : tie.Need-returns
+unfolding flatRecordAt
 returns c =
     simp (
-      c .be323 .ensures,
-      c .before .be322 .ensures,
-      c .before .before .be24 .ensures .0,
-      c .before .before .before .field8 .ensures,
+      c .bit-of10 .ensures .0,
+      c .before .bit-of9 .ensures .0,
+      c .before .before .bit-of8 .ensures .0,
+      c .before .before .before .bit-of7 .ensures .0,
       c .before .before .before .before .field7 .ensures,
-      c .before .before .before .before .before .unless .ensures,
-      c .before .before .before .before .before .before .field6 .ensures,
-      c .before .before .before .before .before .before .before .some-bool-if .ensures,
-      c .before .before .before .before .before .before .before .before .flag4 .ensures,
-      c .before .before .before .before .before .before .before .before .before .field5 .ensures,
-      c .before .before .before .before .before .before .before .before .before .before .field4 .ensures,
-      c .before .before .before .before .before .before .before .before .before .before .before .flag3 .ensures,
-      c .before .before .before .before .before .before .before .before .before .before .before .before .flag2 .ensures,
-      c .before .before .before .before .before .before .before .before .before .before .before .before .before .field3 .ensures,
-      c .before .before .before .before .before .before .before .before .before .before .before .before .before .before .field2 .ensures,
-      c .before .before .before .before .before .before .before .before .before .before .before .before .before .before .before .flag .ensures,
-      c .before .before .before .before .before .before .before .before .before .before .before .before .before .before .before .before .be32 .ensures,
-      c .before .before .before .before .before .before .before .before .before .before .before .before .before .before .before .before .before .has-scrambling-selector .ensures,
-      c .before .before .before .before .before .before .before .before .before .before .before .before .before .before .before .before .before .before .from-u8 .ensures,
-      c .before .before .before .before .before .before .before .before .before .before .before .before .before .before .before .before .before .before .before .field .ensures,
-      c .before .before .before .before .before .before .before .before .before .before .before .before .before .before .before .before .before .before .before .before .byte3 .ensures .0,
-      c .before .before .before .before .before .before .before .before .before .before .before .before .before .before .before .before .before .before .before .before .before .byte2 .ensures .0,
-      c .before .before .before .before .before .before .before .before .before .before .before .before .before .before .before .before .before .before .before .before .before .before .byte .ensures .0,
+      c .before .before .before .before .before .field6 .ensures,
+      c .before .before .before .before .before .before .bit-of6 .ensures .0,
+      c .before .before .before .before .before .before .before .without .ensures,
+      c .before .before .before .before .before .before .before .before .bit-of5 .ensures .0,
+      c .before .before .before .before .before .before .before .before .before .both .ensures,
+      c .before .before .before .before .before .before .before .before .before .before .bit-of4 .ensures .0,
+      c .before .before .before .before .before .before .before .before .before .before .before .field5 .ensures,
+      c .before .before .before .before .before .before .before .before .before .before .before .before .field4 .ensures,
+      c .before .before .before .before .before .before .before .before .before .before .before .before .before .bit-of3 .ensures .0,
+      c .before .before .before .before .before .before .before .before .before .before .before .before .before .before .flag4 .ensures,
+      c .before .before .before .before .before .before .before .before .before .before .before .before .before .before .before .bit-of2 .ensures .0,
+      c .before .before .before .before .before .before .before .before .before .before .before .before .before .before .before .before .flag3 .ensures,
+      c .before .before .before .before .before .before .before .before .before .before .before .before .before .before .before .before .before .field3 .ensures,
+      c .before .before .before .before .before .before .before .before .before .before .before .before .before .before .before .before .before .before .field2 .ensures,
+      c .before .before .before .before .before .before .before .before .before .before .before .before .before .before .before .before .before .before .before .bit-of .ensures .0,
+      c .before .before .before .before .before .before .before .before .before .before .before .before .before .before .before .before .before .before .before .before .flag2 .ensures,
+      c .before .before .before .before .before .before .before .before .before .before .before .before .before .before .before .before .before .before .before .before .before .is-reserved .ensures,
+      c .before .before .before .before .before .before .before .before .before .before .before .before .before .before .before .before .before .before .before .before .before .before .be323 .ensures,
+      c .before .before .before .before .before .before .before .before .before .before .before .before .before .before .before .before .before .before .before .before .before .before .before .be322 .ensures,
+      c .before .before .before .before .before .before .before .before .before .before .before .before .before .before .before .before .before .before .before .before .before .before .before .before .be24 .ensures .0,
+      c .before .before .before .before .before .before .before .before .before .before .before .before .before .before .before .before .before .before .before .before .before .before .before .before .before .be32 .ensures,
+      c .before .before .before .before .before .before .before .before .before .before .before .before .before .before .before .before .before .before .before .before .before .before .before .before .before .before .has-scrambling-selector .ensures,
+      c .before .before .before .before .before .before .before .before .before .before .before .before .before .before .before .before .before .before .before .before .before .before .before .before .before .before .before .from-u8 .ensures,
+      c .before .before .before .before .before .before .before .before .before .before .before .before .before .before .before .before .before .before .before .before .before .before .before .before .before .before .before .before .field .ensures,
+      c .before .before .before .before .before .before .before .before .before .before .before .before .before .before .before .before .before .before .before .before .before .before .before .before .before .before .before .before .before .flag .ensures,
+      c .before .before .before .before .before .before .before .before .before .before .before .before .before .before .before .before .before .before .before .before .before .before .before .before .before .before .before .before .before .before .byte3 .ensures .0,
+      c .before .before .before .before .before .before .before .before .before .before .before .before .before .before .before .before .before .before .before .before .before .before .before .before .before .before .before .before .before .before .before .byte2 .ensures .0,
+      c .before .before .before .before .before .before .before .before .before .before .before .before .before .before .before .before .before .before .before .before .before .before .before .before .before .before .before .before .before .before .before .before .byte .ensures .0,
+      c .before .before .before .before .before .before .before .before .before .before .before .before .before .before .before .before .before .before .before .before .before .before .before .before .before .before .before .before .before .before .before .before .before .bonds-at .ensures,
+      c .before .before .before .before .before .before .before .before .before .before .before .before .before .before .before .before .before .before .before .before .before .before .before .before .before .before .before .before .before .before .before .before .before .before .byte-at2 .ensures,
+      c .before .before .before .before .before .before .before .before .before .before .before .before .before .before .before .before .before .before .before .before .before .before .before .before .before .before .before .before .before .before .before .before .before .before .before .scrambling-at .ensures,
+      c .before .before .before .before .before .before .before .before .before .before .before .before .before .before .before .before .before .before .before .before .before .before .before .before .before .before .before .before .before .before .before .before .before .before .before .before .byte-at .ensures,
+      c .before .before .before .before .before .before .before .before .before .before .before .before .before .before .before .before .before .before .before .before .before .before .before .before .before .before .before .before .before .before .before .before .before .before .before .before .before .before .pre .1,
     )
 
 pub record-of-spec : {M : Type 1} → statement M
 record-of-spec =
     tie.close
     (tie.spec
+    byte-at-requires
+    scrambling-at-requires
+    byte-at-requires-2
+    bonds-at-requires
     byte-requires
     byte-requires-2
     byte-requires-3
+    flag-requires
     field-requires
     from-u8-requires
     has-scrambling-selector-requires
     be32-requires
-    flag-requires
-    field-requires-2
-    field-requires-3
-    flag-requires-2
-    flag-requires-3
-    field-requires-4
-    field-requires-5
-    flag-requires-4
-    some-bool-if-requires
-    field-requires-6
-    unless-requires
-    field-requires-7
-    field-requires-8
     be24-requires
     be32-requires-2
     be32-requires-3
+    is-reserved-requires
+    flag-requires-2
+    bit-of-requires
+    field-requires-2
+    field-requires-3
+    flag-requires-3
+    bit-of-requires-2
+    flag-requires-4
+    bit-of-requires-3
+    field-requires-4
+    field-requires-5
+    bit-of-requires-4
+    both-requires
+    bit-of-requires-5
+    without-requires
+    bit-of-requires-6
+    field-requires-6
+    field-requires-7
+    bit-of-requires-7
+    bit-of-requires-8
+    bit-of-requires-9
+    bit-of-requires-10
     returns)

@@ -1,0 +1,69 @@
+-- What a body holds, as the plain numbers that the code gives: `flatBlockAt` a superframe block, `flatRecordAt` the record. `proofs/Flat.antt` shows that they are what crosses of
+-- `superframeAt` and `recordAt`; no public contract cites them. Assumes nothing.
+use Prim.Native.Nat.{ℕ, _+_}
+use mathlib.Core.List.{List, [], _∷_, _++_}
+use mathlib.Core.Bool.{Bool}
+use Rattle.wire.specs.Flags.{bit, isOne, when, and, not}
+use Rattle.wire.specs.Widths.{size, cut, give}
+use Rattle.s2xv2.specs.Table144b as T
+use Rattle.s2xv2.specs.Table144c.{modeOf, hasSelector}
+use Rattle.s2xv2.specs.Options.{orZero8, orZero32, some8If, someSuperframeIf}
+use Rattle.s2xv2.specs.Read.{planAt, superframeAt, byteAt, reserved6At, indexAt, reserved7At, countIf, firstIdAt, secondIdAt}
+use Rattle.s2xv2.specs.declared.layout.Present.{Present}
+use Rattle.s2xv2.specs.declared.layout.Ends.{Ends}
+use Rattle.flat.specs.Output.{isReserved, superframeOut}
+use Rattle.flat.specs.declared.types.FlatSuperframe.{FlatSuperframe}
+use Rattle.flat.specs.declared.types.FlatRecord.{FlatRecord}
+
+unfoldable pub flatBlockAt : List ℕ → ℕ → Bool → FlatSuperframe
+flatBlockAt s p plan =
+    give T.superframe (λ sosf selector hopping reserved reference nibble payload. give T.superframeEnd (λ pilots pli. record {
+      «reference_scrambling_index» = reference;
+      «payload_scrambling_index» = payload;
+      «beamhopping_time_plan_id» = orZero32 (planAt s p plan);
+      «sosf_wh_sequence_number» = sosf;
+      «sffi_selector» = bit (isOne selector);
+      «beam_hopping_time_plan_selector» = bit (isOne hopping);
+      «reserved_zero_future_use_2» = reserved;
+      «has_sffi» = bit (isOne selector);
+      sffi = orZero8 (some8If (isOne selector) nibble);
+      «reserved_zero_future_use_4» = when (isOne selector) 0 nibble;
+      «has_beamhopping_time_plan_id» = bit plan;
+      «superframe_pilots_wh_sequence_number» = pilots;
+      «postamble_pli» = pli;
+    }) (cut s (p + when plan (size (T.superframe ++ T.plan)) (size T.superframe)) T.superframeEnd)) (cut s p T.superframe)
+
+unfoldable pub flatRecordAt : List ℕ → Present → Ends → FlatRecord
+flatRecordAt s k e =
+    give T.core (λ id mode flag rollOff reserved2 reference version bond polarization top tsgs profiles satellite frequency rate. record {
+      «delivery_system_id» = id;
+      «satellite_id» = satellite;
+      frequency = frequency;
+      «symbol_rate» = rate;
+      «scrambling_sequence_index» = orZero32 (indexAt s (e .stream) (k .scrambling));
+      «secondary_delivery_system_ids» = firstIdAt s (e .timeslice) (k .bond) ∷ secondIdAt s (e .timeslice) (k .bond) (e .second) ∷ [];
+      superframe = superframeOut (someSuperframeIf (k .superframe) (superframeAt s (e .bond) (e .plan)));
+      «mode_is_reserved» = isReserved (modeOf mode);
+      «s2xv2_mode» = mode;
+      «multiple_input_stream_flag» = bit (isOne flag);
+      «roll_off» = rollOff;
+      «reserved_zero_future_use_2» = reserved2;
+      «ncr_reference» = bit (isOne reference);
+      «ncr_version» = bit (isOne version);
+      «channel_bond» = bond;
+      polarization = polarization;
+      «has_scrambling_sequence_selector» = bit (hasSelector (modeOf mode));
+      «scrambling_sequence_selector» = bit (and (hasSelector (modeOf mode)) (isOne top));
+      «reserved_zero_future_use_1» = bit (and (not (hasSelector (modeOf mode))) (isOne top));
+      «ts_gs_s2x_mode» = tsgs;
+      «receiver_profiles» = profiles;
+      «has_input_stream_identifier» = bit (k .stream);
+      «input_stream_identifier» = orZero8 (byteAt s (size T.core) (k .stream));
+      «reserved_zero_future_use_6» = reserved6At s (e .stream) (k .scrambling);
+      «has_scrambling_sequence_index» = bit (k .scrambling);
+      «has_timeslice_number» = bit (k .timeslice);
+      «timeslice_number» = orZero8 (byteAt s (e .scrambling) (k .timeslice));
+      «reserved_zero_future_use_7» = reserved7At s (e .timeslice) (k .bond);
+      «num_channel_bonds» = countIf (k .bond) (e .second);
+      «has_superframe» = bit (k .superframe);
+    }) (cut s 0 T.core)
