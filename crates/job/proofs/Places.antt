@@ -3,7 +3,11 @@
 use mathlib.Core.Path.{_≡_, refl, sym, ap, _∙_}
 use Prim.Native.Nat.{ℕ, _+_, _-_, _≤_, _<_}
 use native.Mathlib.Omega.{arith}
+use mathlib.Core.Bool.{Bool, true, false}
+use borrow.Author.Tests.{eqb-true, eqb-false}
 use lib.ListN.{length, getD}
+use lib.Dec.{eqb}
+use Rattle.wire.specs.Flags.{when}
 use Rattle.stores.specs.declared.store.Store.{Store}
 use Rattle.stores.specs.Run.{_at_}
 use Rattle.stores.proofs.Laws.{within-at}
@@ -77,3 +81,18 @@ module _ (j : Job) (f : Fair j) where
 
   pub next-tag : j .«stores_made» ≡ j .«slot_size» + 1 → tag at 0 ≡ nextStore j
   next-tag e = sym (at-number (j .«slot_size» + 1) e ∙ stores-tag (j .«slot_size») (descriptor j) two fits)
+
+  -- the first two, and the last two
+  pub next-first : j .«stores_made» < 2 → when (eqb (j .«stores_made») 0) (stuffingTag at 0) ((j .«slot_size» - 2) at 1) ≡ nextStore j
+  next-first h = go (eqb (j .«stores_made») 0) refl
+    where
+      go : (b : Bool) → eqb (j .«stores_made») 0 ≡ b → when b (stuffingTag at 0) ((j .«slot_size» - 2) at 1) ≡ nextStore j
+      go true e = next-cover (eqb-true _ _ e)
+      go false e = let d : j .«stores_made» ≡ 0 → ⊥ = eqb-false _ _ e in next-over (omega (arith, d))
+
+  pub next-last : j .«slot_size» ≤ j .«stores_made» → j .«stores_made» < j .«slot_size» + 2 → when (eqb (j .«stores_made») (j .«slot_size»)) ((j .«descriptor_size» - 2) at 1) (tag at 0) ≡ nextStore j
+  next-last l h = go (eqb (j .«stores_made») (j .«slot_size»)) refl
+    where
+      go : (b : Bool) → eqb (j .«stores_made») (j .«slot_size») ≡ b → when b ((j .«descriptor_size» - 2) at 1) (tag at 0) ≡ nextStore j
+      go true e = next-size (eqb-true _ _ e)
+      go false e = let d : j .«stores_made» ≡ j .«slot_size» → ⊥ = eqb-false _ _ e in next-tag (omega (arith, d))

@@ -3,7 +3,9 @@ ghost use mathlib.Core.Path.{_≡_};
 ghost use Prim.Native.Nat.{_+_, _-_, _<_, _≤_};
 ghost use lib.ListN.{length, getD};
 ghost use Rattle.stores.specs.Run.{_at_, stored, run};
-ghost use Rattle.form.specs.Envelope.{stuffing};
+ghost use lib.Dec.{eqb};
+ghost use Rattle.wire.specs.Flags.{when};
+ghost use Rattle.form.specs.Envelope.{tag, stuffingTag, stuffing};
 ghost use Rattle.job.specs.Job.{Fair, jobOf, nextStore, nextStores};
 use form::envelope::FILLER;
 use form::envelope::STUFFING_TAG;
@@ -31,27 +33,43 @@ fn stuffing_byte(n: usize, d: usize, k: usize) -> u8
     (n - d - 2) as u8
 }
 
-// The job's next store. The stores that are many, the descriptor's own bytes and then the stuffing, come first.
-fn next_store(staged: &[u8; 257], n: usize, d: usize, k: usize) -> Store
-    requires { ⌜ Fair (jobOf (now staged) n d k) × (k < n + 2) ⌝ }
-    ensures { λ r. ⌜ r ≡ nextStore (jobOf (now (staged .entry)) n d k) ⌝ }
+// The first two stores, which make the whole slot one stuffing descriptor: its tag, and its length.
+fn first_store(n: usize, k: usize) -> Store
+    requires { ⌜ (2 ≤ n) × (n ≤ 257) ⌝ }
+    ensures { λ r. ⌜ r ≡ when (eqb k 0) (stuffingTag at 0) ((n - 2) at 1) ⌝ }
 {
-    if 1 < k {
-        if k < d {
-            return store_at(staged[k], k);
-        }
-        if k < n {
-            return store_at(stuffing_byte(n, d, k), k);
-        }
-        if k == n {
-            return store_at((d - 2) as u8, 1);
-        }
-        return store_at(TAG, 0);
-    }
     if k == 0 {
         return store_at(STUFFING_TAG, 0);
     }
     store_at((n - 2) as u8, 1)
+}
+
+// The last two stores, which uncover the descriptor: its length, and its tag.
+fn last_store(n: usize, d: usize, k: usize) -> Store
+    requires { ⌜ (2 ≤ d) × (d ≤ 257) ⌝ }
+    ensures { λ r. ⌜ r ≡ when (eqb k n) ((d - 2) at 1) (tag at 0) ⌝ }
+{
+    if k == n {
+        return store_at((d - 2) as u8, 1);
+    }
+    store_at(TAG, 0)
+}
+
+// The job's next store. The stores that are many, the descriptor's own bytes and the stuffing, take the fewest tests.
+fn next_store(staged: &[u8; 257], n: usize, d: usize, k: usize) -> Store
+    requires { ⌜ Fair (jobOf (now staged) n d k) × (k < n + 2) ⌝ }
+    ensures { λ r. ⌜ r ≡ nextStore (jobOf (now (staged .entry)) n d k) ⌝ }
+{
+    if k < d {
+        if k < 2 {
+            return first_store(n, k);
+        }
+        return store_at(staged[k], k);
+    }
+    if n <= k {
+        return last_store(n, d, k);
+    }
+    store_at(stuffing_byte(n, d, k), k)
 }
 
 // Makes one store and no other.
