@@ -53,7 +53,7 @@ fn smaller(a: usize, b: usize) -> usize
     if a < b { a } else { b }
 }
 
-// A step that is accepted, and one that is refused.
+// A step that is accepted.
 fn accepted(made: usize, stores: usize, done: bool) -> Moved
     ensures { λ r. ⌜ r ≡ record { made = made; answer = Accepted; stores = stores; done = done } ⌝ }
 {
@@ -65,6 +65,7 @@ fn accepted(made: usize, stores: usize, done: bool) -> Moved
     }
 }
 
+// A step that is refused: no store, not done.
 fn refused(made: usize) -> Moved
     ensures { λ r. ⌜ r ≡ record { made = made; answer = OtherSize; stores = 0; done = false } ⌝ }
 {

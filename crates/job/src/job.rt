@@ -16,12 +16,14 @@ pub struct Job {
     pub stores_made: usize,
 }
 
+// Whether a step was accepted; else it is refused with answer 8.
 pub enum StepAnswer {
     Accepted,
     // The slot has another size than at begin, or no begin and steps could give the job's numbers.
     OtherSize,
 }
 
+// What a step answers.
 pub struct Stepped {
     // The job after the step.
     pub job: Job,

@@ -1,5 +1,6 @@
 -- The lines of a dump: `lineOf` is a name, a space, a number and a newline; `refusedOf` is the one line of a refused body. `codes` is a
--- quoted text as the codes of its characters, `wordsOf` some numbers with a space before each. Assumes nothing.
+-- quoted text as the codes of its characters, `space` and `newline` are two such texts; `wordOf` is a number with a space before it,
+-- `words` some of them, and `wordsOf` these as one text. Assumes nothing.
 use Prim.Native.Nat.{ℕ}
 use Prim.Native.Char.{code}
 use Prim.Native.String.{String}

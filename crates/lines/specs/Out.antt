@@ -1,6 +1,6 @@
--- Text that goes into a lent buffer from a place on, as far as the buffer reaches: `Out` is a buffer and the place, `write` puts text
--- there, `putOne` one byte of it, and `Wrote` says so of a buffer and place before and after. `joined` is one text after the other.
--- Assumes nothing.
+-- Text that goes into a lent buffer from a place on, as far as the buffer reaches: `Out` is a buffer and the place, made by `_from_`;
+-- `write` puts text there, `putOne` one byte of it, and `Wrote` says so of a buffer and place before and after. `joined` is one text
+-- after the other. Assumes nothing.
 use Prim.Native.Nat.{ℕ, _+_}
 use mathlib.Core.Path.{_≡_}
 use mathlib.Core.List.{List, [], _∷_, _++_}

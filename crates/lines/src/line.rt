@@ -25,19 +25,21 @@ pub fn line(out: &mut [u8], at: usize, name: &[u8], value: u64) -> usize
     put(out, at, b'\n')
 }
 
-// The same for a number of each width, and for a flag.
+// A line with a number of one byte.
 pub fn line8(out: &mut [u8], at: usize, name: &[u8], value: u8) -> usize
     ensures { λ r. ⌜ Wrote (now (out .entry) from at) (lineOf (now (name .entry)) value) (now (out .exit) from r) ⌝ }
 {
     line(out, at, name, value as u64)
 }
 
+// A line with a number of four bytes.
 pub fn line32(out: &mut [u8], at: usize, name: &[u8], value: u32) -> usize
     ensures { λ r. ⌜ Wrote (now (out .entry) from at) (lineOf (now (name .entry)) value) (now (out .exit) from r) ⌝ }
 {
     line(out, at, name, value as u64)
 }
 
+// A line with a flag, 1 or 0.
 pub fn flag(out: &mut [u8], at: usize, name: &[u8], value: bool) -> usize
     ensures { λ r. ⌜ Wrote (now (out .entry) from at) (lineOf (now (name .entry)) (bit value)) (now (out .exit) from r) ⌝ }
 {

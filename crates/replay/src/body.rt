@@ -15,6 +15,7 @@ struct Shape {
     full: u32,
 }
 
+// The lowest byte of a number.
 fn low(v: u32) -> u8 {
     (v % 256) as u8
 }
@@ -24,6 +25,7 @@ fn get(bytes: &[u8], i: usize) -> u8 {
     if i < bytes.len() { bytes[i] } else { 0 }
 }
 
+// Stores a byte where the buffer has the place, and nothing behind its end.
 pub(crate) fn put(bytes: &mut [u8], i: usize, b: u8) {
     if i < bytes.len() {
         bytes[i] = b;
@@ -105,6 +107,7 @@ pub(crate) fn bit(case: u32, body: &mut [u8]) -> usize {
     180
 }
 
+// How long a drawn body is: mostly below 64, in one case of 1,024 longer, half of these at the limit.
 fn length_of(case: u32, draw: u32) -> usize {
     if case % 1024 != 1023 {
         return (draw % 64) as usize;
@@ -116,10 +119,12 @@ fn length_of(case: u32, draw: u32) -> usize {
     }
 }
 
+// Byte 4 with another mode.
 fn with_mode(b: u8, mode: u32) -> u8 {
     low(mode % 16 * 16 + (b as u32) % 16)
 }
 
+// Byte 5 with channel_bond 1.
 fn bonded(b: u8) -> u8 {
     b / 16 * 16 + 4 + b % 4
 }
@@ -135,6 +140,7 @@ fn set_core(case: u32, draw: u32, n: usize, body: &mut [u8]) {
     }
 }
 
+// A length and the spare bytes as one number.
 fn made(length: usize, spare: u32) -> usize {
     length % 65_536 * 4 + (spare % 4) as usize
 }

@@ -7,6 +7,7 @@ pub(crate) fn show(v: u32) {
     io::write_all(1, b"\n");
 }
 
+// The digest with one number more.
 pub(crate) fn put(d: u64, v: u32) -> u64 {
     let shown = d / 4_294_967_296 % 2;
     if shown == 1 {
@@ -15,10 +16,12 @@ pub(crate) fn put(d: u64, v: u32) -> u64 {
     (d % 4_294_967_296 * 65_599 + (v as u64) + 1) % 4_294_967_291 + shown * 4_294_967_296
 }
 
+// The digest with one byte more.
 fn put_byte(d: u64, b: u8) -> u64 {
     put(d, b as u32)
 }
 
+// The digest with all bytes of a part more.
 pub(crate) fn put_bytes(start: u64, bytes: &[u8]) -> u64 {
     let mut d = start;
     let mut i = 0;
@@ -29,6 +32,7 @@ pub(crate) fn put_bytes(start: u64, bytes: &[u8]) -> u64 {
     d
 }
 
+// The digest with all numbers of a list more.
 pub(crate) fn put_all(start: u64, values: &[u32]) -> u64 {
     let mut d = start;
     let mut i = 0;

@@ -1,6 +1,7 @@
 // The generator: a congruence modulo 2^32, of which only the high bits are used.
 use crate::body::put;
 
+// The state after one.
 pub(crate) fn next(x: u32) -> u32 {
     (((x as u64) * 1_664_525 + 1_013_904_223) % 4_294_967_296) as u32
 }

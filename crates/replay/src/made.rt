@@ -7,14 +7,17 @@ use s2xv2::record::S2Xv2SatelliteDeliverySystem;
 use s2xv2::superframe::OptionSuperframe;
 use s2xv2::superframe::S2Xv2Superframe;
 
+// The lowest byte of a number.
 fn byte(v: u32) -> u8 {
     (v % 256) as u8
 }
 
+// Whether a flag is set.
 fn set(v: u32) -> bool {
     v != 0
 }
 
+// A mode of its code, `Reserved` where that is asked.
 fn mode(code: u32, reserved: u32) -> S2Xv2Mode {
     if reserved == 0 {
         S2Xv2Mode::from_u8(byte(code))
@@ -23,6 +26,7 @@ fn mode(code: u32, reserved: u32) -> S2Xv2Mode {
     }
 }
 
+// The selector: 0 is absent, 1 clear, 2 set.
 fn selector(v: u32) -> OptionBool {
     if v == 0 {
         OptionBool::None
@@ -31,6 +35,7 @@ fn selector(v: u32) -> OptionBool {
     }
 }
 
+// A byte that may be absent.
 fn option8(there: u32, v: u32) -> OptionU8 {
     if there == 0 {
         OptionU8::None
@@ -39,6 +44,7 @@ fn option8(there: u32, v: u32) -> OptionU8 {
     }
 }
 
+// A number that may be absent.
 fn option32(there: u32, v: u32) -> OptionU32 {
     if there == 0 {
         OptionU32::None
@@ -47,6 +53,7 @@ fn option32(there: u32, v: u32) -> OptionU32 {
     }
 }
 
+// The superframe block.
 fn superframe(v: &[u32; 45]) -> S2Xv2Superframe {
     S2Xv2Superframe {
         sosf_wh_sequence_number: byte(v[29]),
@@ -63,6 +70,7 @@ fn superframe(v: &[u32; 45]) -> S2Xv2Superframe {
     }
 }
 
+// The superframe block, where it is there.
 fn superframe_if(v: &[u32; 45]) -> OptionSuperframe {
     if v[28] == 0 {
         OptionSuperframe::None
@@ -71,6 +79,7 @@ fn superframe_if(v: &[u32; 45]) -> OptionSuperframe {
     }
 }
 
+// The record.
 pub(crate) fn record(v: &[u32; 45]) -> S2Xv2SatelliteDeliverySystem {
     S2Xv2SatelliteDeliverySystem {
         delivery_system_id: v[0],

@@ -14,6 +14,7 @@ mod shown;
 mod told;
 mod values;
 
+// Prints a text and a number.
 fn word(text: &[u8], n: u32) {
     io::write_all(1, text);
     io::print_decimal(1, n as u64);
@@ -31,15 +32,17 @@ fn print_name(set: u32) {
     ;
 }
 
-// The digest of a case that was run, and the cell of its answer.
+// The digest of a case that was run.
 fn digest_of(ran: u64) -> u32 {
     (ran % 4_294_967_296) as u32
 }
 
+// The cell of its answer.
 fn cell_of(ran: u64) -> usize {
     (ran / 8_589_934_592) as usize
 }
 
+// Prints a case with a name: its number, its answer, its digest.
 fn print_named(kind: &[u8], k: u32, t: &[u32; 5], ran: u64) {
     word(kind, k % 64 + 1);
     io::write_all(1, b":");
@@ -48,18 +51,21 @@ fn print_named(kind: &[u8], k: u32, t: &[u32; 5], ran: u64) {
     io::write_all(1, b"\n");
 }
 
+// Runs and prints a body with a name.
 fn named_body(k: u32, body: &mut [u8], out: &mut [u8]) {
     let made = named::body(k as usize, body);
     let t = run::answer_to_made(body, made);
     print_named(b"body ", k, &t, run::run_made(0, body, made, out));
 }
 
+// Runs and prints a record with a name.
 fn named_record(k: u32, out: &mut [u8], tail: &[u8]) {
     let v = named::record(k as usize);
     let ran = run::run_case(0, &v, tail, out);
     print_named(b"record ", k, &run::written_to(&v, tail, out), ran);
 }
 
+// Runs the cases with a name.
 fn named_cases(body: &mut [u8], out: &mut [u8], tail: &[u8]) {
     let mut k = 0;
     while k < 22 {
@@ -69,6 +75,7 @@ fn named_cases(body: &mut [u8], out: &mut [u8], tail: &[u8]) {
     named_records(out, tail);
 }
 
+// Runs the records with a name.
 fn named_records(out: &mut [u8], tail: &[u8]) {
     let mut k = 0;
     while k < 43 {
@@ -77,6 +84,7 @@ fn named_records(out: &mut [u8], tail: &[u8]) {
     }
 }
 
+// Counts one answer.
 fn count(counts: &mut [u32; 43], cell: usize) {
     if cell < 43 {
         counts[cell] = std::num::wrapping_add_u32(counts[cell], 1);
@@ -102,6 +110,7 @@ fn count_all(
     digest_of(d)
 }
 
+// Runs a set and prints its counts and its digest.
 fn whole_set(set: u32, body: &mut [u8], out: &mut [u8], tail: &[u8]) {
     let mut counts = [0u32; 43];
     let n = run::cases(set);
@@ -114,6 +123,7 @@ fn whole_set(set: u32, body: &mut [u8], out: &mut [u8], tail: &[u8]) {
     io::write_all(1, b"\n");
 }
 
+// Runs all cases.
 fn all(body: &mut [u8], out: &mut [u8], tail: &[u8]) {
     named_cases(body, out, tail);
     let mut set = 0;
@@ -128,6 +138,7 @@ fn number(a: u8, b: u8, c: u8, d: u8) -> u32 {
     (a as u32) * 16_777_216 + (b as u32) * 65_536 + (c as u32) * 256 + (d as u32)
 }
 
+// Prints the digest, unless the numbers are shown.
 fn show_digest(numbers: bool, ran: u64) {
     if !numbers {
         digest::show(digest_of(ran));
@@ -145,6 +156,7 @@ fn show(numbers: bool, set: u32, from: u32, to: u32, body: &mut [u8], out: &mut 
     }
 }
 
+// Runs all cases, or shows what it is asked for.
 fn main() {
     let mut body = [0u8; 4097];
     let mut out = [0u8; 4200];

@@ -647,6 +647,7 @@ const RECORDS: [u32; 430] = [
     0,
 ];
 
+// Stores a byte of a body.
 fn store(body: &mut [u8], at: u16, byte: u16) {
     put(body, at as usize, (byte % 256) as u8);
 }
@@ -656,6 +657,7 @@ fn made(n: u16) -> usize {
     (n as usize) * 4 + 1
 }
 
+// Makes a body all 0.
 fn zero(body: &mut [u8]) {
     let mut i = 0;
     while i < body.len() {
@@ -664,10 +666,12 @@ fn zero(body: &mut [u8]) {
     }
 }
 
+// An entry of the bodies, 0 behind their end.
 fn body_entry(i: usize) -> u16 {
     if i < 198 { BODIES[i] } else { 0 }
 }
 
+// An entry of the records, 0 behind their end.
 fn record_entry(i: usize) -> u32 {
     if i < 430 { RECORDS[i] } else { 0 }
 }
@@ -694,6 +698,7 @@ pub(crate) fn body(k: usize, body: &mut [u8]) -> usize {
     made(body_entry(at))
 }
 
+// Sets a field; there are 42.
 fn set(v: &mut [u32; 45], field: u32, value: u32) {
     let i = field as usize;
     if i < 42 {

@@ -10,6 +10,7 @@ use crate::told::told;
 use crate::values;
 use crate::values::room;
 
+// A number as a size.
 fn size(v: u32) -> usize {
     v as usize
 }
@@ -30,12 +31,14 @@ fn answer_to(body: &[u8]) -> [u32; 5] {
     told(answer)
 }
 
+// The record that the reader shows.
 fn put_body(d: u64, body: &[u8]) -> u64 {
     let read = reader::parse(body);
     let record = read.body;
     put_record(d, record)
 }
 
+// The tail: its length and its bytes.
 fn put_tail(d: u64, body: &[u8]) -> u64 {
     let tail = reader::reserved_tail(body);
     put_bytes(put(d, (tail.len() % 4_294_967_296) as u32), tail)
@@ -57,6 +60,7 @@ fn back(body: &[u8], out: &mut [u8]) -> [u32; 5] {
     told(answer)
 }
 
+// The answer of the writing back, and the buffer.
 fn put_back(d: u64, body: &[u8], out: &mut [u8]) -> u64 {
     let t = back(body, out);
     put_bytes(put_told(d, &t), out)
@@ -105,12 +109,14 @@ pub(crate) fn answer_to_made(body: &[u8], made: usize) -> [u32; 5] {
     }
 }
 
+// What the length call answers.
 fn measured(v: &[u32; 45], tail: &[u8]) -> [u32; 5] {
     let r = record(v);
     let answer = writer::serialized_len(r, tail);
     told(answer)
 }
 
+// What the writer answers.
 fn written(v: &[u32; 45], tail: &[u8], out: &mut [u8]) -> [u32; 5] {
     let r = record(v);
     clear(out);
@@ -147,6 +153,7 @@ fn room_for(v: &[u32; 45], t: &[u32; 5]) -> usize {
     }
 }
 
+// A record is measured, written into a buffer of the length that its rule gives, and read back.
 fn run_record(d: u64, v: &[u32; 45], tail: &[u8], out: &mut [u8]) -> u64 {
     let t = measured(v, tail);
     let n = room_for(v, &t);
@@ -167,6 +174,7 @@ pub(crate) fn written_to(v: &[u32; 45], tail: &[u8], out: &mut [u8]) -> [u32; 5]
     written_in_room(v, &tail[0..n], out)
 }
 
+// What the writer answers in such a buffer.
 fn written_in_room(v: &[u32; 45], tail: &[u8], out: &mut [u8]) -> [u32; 5] {
     let n = room_for(v, &measured(v, tail));
     if n <= out.len() {
@@ -198,6 +206,7 @@ pub(crate) fn cases(set: u32) -> u32 {
     }
 }
 
+// Makes the body of a case.
 fn make(set: u32, case: u32, body: &mut [u8]) -> usize {
     match set {
         0 => body::cut(case, body),
@@ -206,6 +215,7 @@ fn make(set: u32, case: u32, body: &mut [u8]) -> usize {
     }
 }
 
+// The record of a case, as plain numbers.
 fn values_of(set: u32, case: u32) -> [u32; 45] {
     if set == 3 {
         values::walk(case)
@@ -214,6 +224,7 @@ fn values_of(set: u32, case: u32) -> [u32; 45] {
     }
 }
 
+// Runs a case of a set.
 pub(crate) fn run(
     set: u32,
     case: u32,

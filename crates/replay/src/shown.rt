@@ -11,14 +11,17 @@ use s2xv2::superframe::S2Xv2Superframe;
 // Two numbers.
 struct Pair(u32, u32);
 
+// A flag as a number.
 fn bit(b: bool) -> u32 {
     if b { 1 } else { 0 }
 }
 
+// A byte as a number.
 fn wide(v: u8) -> u32 {
     v as u32
 }
 
+// A byte that may be absent.
 fn option8(v: OptionU8) -> Pair {
     match v {
         OptionU8::Some(n) => Pair(1, wide(n)),
@@ -26,6 +29,7 @@ fn option8(v: OptionU8) -> Pair {
     }
 }
 
+// A number that may be absent.
 fn option32(v: OptionU32) -> Pair {
     match v {
         OptionU32::Some(n) => Pair(1, n),
@@ -33,6 +37,7 @@ fn option32(v: OptionU32) -> Pair {
     }
 }
 
+// The selector: 0 is absent, 1 clear, 2 set.
 fn selector(v: OptionBool) -> u32 {
     match v {
         OptionBool::Some(b) => if b { 2 } else { 1 },
@@ -53,6 +58,7 @@ fn reserved(mode: S2Xv2Mode) -> u32 {
     }
 }
 
+// The fields of the core.
 fn core(r: S2Xv2SatelliteDeliverySystem) -> [u32; 17] {
     let mode = r.s2xv2_mode;
     let chosen = r.scrambling_sequence_selector;
@@ -77,6 +83,7 @@ fn core(r: S2Xv2SatelliteDeliverySystem) -> [u32; 17] {
     ]
 }
 
+// The fields between the core and the superframe block.
 fn parts(r: S2Xv2SatelliteDeliverySystem) -> [u32; 11] {
     let stream_id = r.input_stream_identifier;
     let stream = option8(stream_id);
@@ -100,6 +107,7 @@ fn parts(r: S2Xv2SatelliteDeliverySystem) -> [u32; 11] {
     ]
 }
 
+// Whether there is a superframe block, and its fields.
 fn block(there: u32, f: S2Xv2Superframe) -> [u32; 14] {
     let nibble = f.sffi;
     let sffi = option8(nibble);
@@ -123,6 +131,7 @@ fn block(there: u32, f: S2Xv2Superframe) -> [u32; 14] {
     ]
 }
 
+// The same of a block that may be absent: zeros then.
 fn superframe(o: OptionSuperframe) -> [u32; 14] {
     match o {
         OptionSuperframe::Some(f) => block(1, f),
@@ -130,6 +139,7 @@ fn superframe(o: OptionSuperframe) -> [u32; 14] {
     }
 }
 
+// The superframe block, into the digest.
 fn put_superframe(d: u64, o: OptionSuperframe) -> u64 {
     put_all(d, &superframe(o))
 }

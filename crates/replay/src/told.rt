@@ -3,10 +3,12 @@ use crate::digest::put;
 use s2xv2::answer::Answer;
 use s2xv2::answer::Refusal;
 
+// The low 32 bits of a size.
 fn low(n: usize) -> u32 {
     (n % 4_294_967_296) as u32
 }
 
+// A refusal as numbers.
 fn refusal(why: Refusal) -> [u32; 5] {
     match why {
         Refusal::Short { place, need, have } => [4, 1, place as u32, low(need), low(have)],
@@ -20,6 +22,7 @@ fn refusal(why: Refusal) -> [u32; 5] {
     }
 }
 
+// An answer as numbers.
 pub(crate) fn told(answer: Answer) -> [u32; 5] {
     match answer {
         Answer::Accepted(result) => [2, 0, low(result), 0, 0],
@@ -27,6 +30,7 @@ pub(crate) fn told(answer: Answer) -> [u32; 5] {
     }
 }
 
+// An entry, 0 behind the end.
 fn at(t: &[u32; 5], i: usize) -> u32 {
     if i < 5 { t[i] } else { 0 }
 }
@@ -43,6 +47,7 @@ pub(crate) fn cell(t: &[u32; 5]) -> u32 {
     }
 }
 
+// An answer, into the digest.
 pub(crate) fn put_told(start: u64, t: &[u32; 5]) -> u64 {
     let n = t[0] % 5;
     let mut d = start;
@@ -54,6 +59,7 @@ pub(crate) fn put_told(start: u64, t: &[u32; 5]) -> u64 {
     d
 }
 
+// Prints a space and a number.
 fn word(v: u32) {
     io::write_all(1, b" ");
     io::print_decimal(1, v as u64);
@@ -80,10 +86,12 @@ fn print_row(counts: &[u32; 43], answer: u32, from: usize, to: usize) {
     io::write_all(1, b"\n");
 }
 
+// A count, 0 behind the end.
 fn count_at(counts: &[u32; 43], i: usize) -> u32 {
     if i < 43 { counts[i] } else { 0 }
 }
 
+// Prints the counts, a line for each answer.
 pub(crate) fn print_counts(counts: &[u32; 43]) {
     print_row(counts, 0, 0, 1);
     print_row(counts, 1, 1, 10);

@@ -3,7 +3,7 @@
 use crate::draw::draws;
 use crate::draw::mode_of;
 
-// Of each field: the largest number of its type, the largest that the wire carries, and its place in list B, 0 where it has none.
+// Of each field: the largest number of its type.
 const TYPES: [u32; 42] = [
     4_294_967_295,
     255,
@@ -49,6 +49,7 @@ const TYPES: [u32; 42] = [
     255,
 ];
 
+// Of each field: the largest number that the wire carries.
 const LARGEST: [u32; 42] = [
     4_294_967_295,
     15,
@@ -94,6 +95,7 @@ const LARGEST: [u32; 42] = [
     7,
 ];
 
+// Of each field: its place in list B, 0 where it has none.
 const PLACES: [u32; 42] = [
     0,
     1,
@@ -139,6 +141,7 @@ const PLACES: [u32; 42] = [
     22,
 ];
 
+// The low 32 bits of a number.
 fn low(v: u64) -> u32 {
     (v % 4_294_967_296) as u32
 }
@@ -159,10 +162,12 @@ fn chosen(there: u32, set: u32) -> u32 {
     if set == 0 { 1 } else { 2 }
 }
 
+// A number, or 0 where the fields are not to be full.
 fn once(full: u32, v: u32) -> u32 {
     if full == 0 { 0 } else { v }
 }
 
+// Every field at 0, or at its largest.
 fn all(full: u32) -> [u32; 45] {
     let mut v = [0u32; 45];
     let mut i = 0;
@@ -187,6 +192,7 @@ pub(crate) fn plain(mode: u32, full: u32) -> [u32; 45] {
     v
 }
 
+// The weight of a bit in a byte.
 fn power(bit: u32) -> u8 {
     match bit % 8 {
         0 => 1,
@@ -200,6 +206,7 @@ fn power(bit: u32) -> u8 {
     }
 }
 
+// A weight in one of four bytes.
 fn scaled(w: u8, byte: u32) -> u32 {
     match byte % 4 {
         0 => w as u32,
@@ -246,6 +253,7 @@ pub(crate) fn walk(case: u32) -> [u32; 45] {
 struct Faults(u32, u32);
 
 impl Faults {
+    // Whether the record has the fault of this place of list B.
     fn b(self, place: u32) -> bool {
         if place == 0 {
             return false;
@@ -253,6 +261,7 @@ impl Faults {
         self.0 == place || self.1 == place
     }
 
+    // Whether it has the one of this place of list A.
     fn a(self, place: u32) -> bool {
         self.b(place % 64 + 22)
     }
@@ -272,6 +281,7 @@ fn value(draw: u32, largest: u32, widest: u32, fault: bool) -> u32 {
     }
 }
 
+// Every field by its draw.
 fn values(d: &[u32; 48], f: Faults) -> [u32; 45] {
     let mut v = [0u32; 45];
     let mut i = 0;
@@ -282,6 +292,7 @@ fn values(d: &[u32; 48], f: Faults) -> [u32; 45] {
     v
 }
 
+// Whether something is there: the opposite where it is at fault.
 fn toggled(there: u32, fault: bool) -> u32 {
     if !fault {
         return there;
@@ -297,6 +308,7 @@ fn behind(set: bool, absent: bool, extra: bool) -> u32 {
     if extra { 1 } else { 0 }
 }
 
+// The mode and channel_bond, which decide on the parts.
 fn set_head(v: &mut [u32; 45], d: &[u32; 48], f: Faults) {
     if !f.b(1) {
         v[1] = mode_of(d[1]);
@@ -311,6 +323,7 @@ fn set_head(v: &mut [u32; 45], d: &[u32; 48], f: Faults) {
     }
 }
 
+// How many ids there are.
 fn bonds(bonded: bool, draw: u32, count: bool, extra: bool) -> u32 {
     if bonded && !count {
         return 1 + draw % 2;
@@ -327,6 +340,7 @@ fn bonds(bonded: bool, draw: u32, count: bool, extra: bool) -> u32 {
     }
 }
 
+// Which parts are there.
 fn set_parts(v: &mut [u32; 45], d: &[u32; 48], f: Faults) {
     v[17] = toggled(v[3], f.a(2));
     v[10] = chosen(toggled(in_modes(v, 1, 2), f.a(3)), d[10] % 2);
@@ -338,6 +352,7 @@ fn set_parts(v: &mut [u32; 45], d: &[u32; 48], f: Faults) {
     v[38] = behind(v[31] == 1, f.b(20), f.a(9));
 }
 
+// How long the tail is: mostly below 8, at times at one of the limits.
 fn tail_length(case: u32, draw: u32) -> u32 {
     if case % 8192 == 8191 {
         return 65_480 + draw % 80;

@@ -29,6 +29,7 @@ fn make_body(case: u32, kind: u32, count: usize, body: &mut [u8]) {
     store(body, 5, if kind == 5 { 247 } else { 243 });
 }
 
+// Counts one answer.
 fn count(counts: &mut [u32; 5], cell: usize) {
     if cell < 5 {
         counts[cell] = std::num::wrapping_add_u32(counts[cell], 1);
@@ -69,6 +70,7 @@ fn stops(
     d
 }
 
+// A case with its body and its slot: what begin answers, and then every number of stores.
 fn run_in(
     d: u32,
     odd: bool,
@@ -116,6 +118,7 @@ fn run(
     )
 }
 
+// All cases.
 fn run_all(
     body: &mut [u8],
     start: &mut [u8],
@@ -132,11 +135,13 @@ fn run_all(
     d
 }
 
+// Prints a text and a number.
 fn word(text: &[u8], n: u32) {
     io::write_all(1, text);
     io::print_decimal(1, n as u64);
 }
 
+// Runs all cases, and prints the counts and the digest.
 fn main() {
     let mut body = [0u8; 300];
     let mut start = [0u8; 257];

@@ -28,6 +28,7 @@ pub(crate) fn begin_told(d: u32, slot: &[u8], body: &[u8]) -> u32 {
     }
 }
 
+// What begin answers for the record and tail of a body.
 fn begun(slot: &[u8], body: &[u8]) -> Answer {
     let read = reader::parse(body);
     let record = read.body;
@@ -45,6 +46,7 @@ pub(crate) fn begin_cell(slot: &[u8], body: &[u8]) -> usize {
     }
 }
 
+// The job that begin gives for them.
 fn job_for(slot: &[u8], body: &[u8]) -> Job {
     let read = reader::parse(body);
     let record = read.body;
@@ -53,6 +55,7 @@ fn job_for(slot: &[u8], body: &[u8]) -> Job {
     b.job
 }
 
+// A step's answer as its number.
 fn answer_number(answer: StepAnswer) -> u32 {
     match answer {
         StepAnswer::Accepted => 0,
@@ -60,6 +63,7 @@ fn answer_number(answer: StepAnswer) -> u32 {
     }
 }
 
+// A flag as a number.
 fn bit(b: bool) -> u32 {
     if b { 1 } else { 0 }
 }

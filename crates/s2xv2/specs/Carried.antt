@@ -1,4 +1,5 @@
--- What the wire carries of a record: `carried` has at 0 each field that is not on the wire. Assumes nothing.
+-- What the wire carries of a record: `carried` has at 0 each field that is not on the wire; `carriedId` is an id so, `carriedBlock` a
+-- superframe block, and `carriedSuperframe` one that may be absent. Assumes nothing.
 use Prim.Native.Nat.{ℕ}
 use mathlib.Core.List.{List, [], _∷_}
 use lib.ListN.{getD}

@@ -1,5 +1,9 @@
 -- What a record is written as: `partsOf` it, each with the widths of Table 144b and the values that stand there. From this one list come
--- the bytes (`encode`) and the length (`encodedLength`). The rest are the parts by themselves. Assumes nothing.
+-- the bytes (`encode`) and the length (`encodedLength`). Assumes nothing.
+-- The values of a part: `coreValues`, with `topBit` for byte 6; `superframeValues`, with `nibbleOf` for SFFI's place; `superframeEndValues`.
+-- The parts of some values: `byteParts` of one byte, `scramblingParts`, `bondParts` with `idParts` for the ids and `lessOne` for their count,
+-- `planParts`, `blockParts` of a superframe block, whose size is `blockLength`, and `superframeParts` of one that may be absent.
+-- The same of a record: `streamOf`, `scramblingOf`, `timesliceOf`, `bondOf`, `superframeOf`.
 use Prim.Native.Nat.{ℕ, zero, suc, _+_}
 use mathlib.Core.List.{List, [], _∷_, _++_}
 use mathlib.Core.Bool.{Bool}

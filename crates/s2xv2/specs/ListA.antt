@@ -1,5 +1,7 @@
 -- List A of document 01: a record that contradicts itself. `listA` has its tests in their order (`partsA`, then `superframeA`), `firstOf`
--- says which is the first that holds, and `inconsistency` is that place, or 0 for a consistent record. Assumes nothing.
+-- says which is the first that holds (`firstFrom`, counted from another number), and `inconsistency` is that place, or 0 for a consistent
+-- record. `misnamed` is the test of a mode, `inSuperframe` makes a test of a superframe block one of a block that may be absent.
+-- Assumes nothing.
 use Prim.Native.Nat.{ℕ, suc}
 use mathlib.Core.List.{List, [], _∷_, _++_}
 use mathlib.Core.Bool.{Bool, false}

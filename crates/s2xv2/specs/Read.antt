@@ -2,6 +2,13 @@
 -- them in `endsOf`), and `bodySize` is the last; `needs` lists the parts with the ends that the body has to reach; `recordIn` is the
 -- record that it holds, `readTold` the answer in numbers, `readOf` both as the reader shows them, and `tailOf` the tail.
 -- A part that is not there ends where the part before it ends, so that it is never the first that is missing. Assumes nothing.
+-- Which parts: `presentFrom` the values of the core; `hasSecond` asks a bond header for a second id, `hasPlan` a block for a plan id.
+-- Where: `only` counts what is there; `streamEnd`, `scramblingEnd`, `timesliceEnd`, `bondEnd` by `bondSize`, `superframeEnd` by
+-- `superframeSize`; `planSize` is as far as a plan id goes. A `Need`, made by `_to_`, is a place with its end.
+-- The record: `byteAt` is the stream id or the timeslice at a byte, `reserved6At`, `indexAt`, `reserved7At`, `firstIdAt` and `secondIdAt` are
+-- the other fields, `countIf` the bonds' count; `superframeFrom` its values is a block, `planAt` its plan id, `superframeAt` the block at
+-- a byte; `recordFrom` all of these is the record, and `recordAt` the one of a body whose parts stand as told.
+-- The answer: `numberOf` it is its first number, `shortTold` is 1 or what else is told, `Reading` is an answer with the record.
 use Prim.Native.Nat.{ℕ, _+_}
 use mathlib.Core.List.{List, [], _∷_, _++_}
 use mathlib.Core.Bool.{Bool}

@@ -2,6 +2,7 @@
 ghost use mathlib.Core.Path.{_≡_};
 ghost use Rattle.s2xv2.specs.Table144c.{modeOf, codeOf, hasSelector, hasTimeslice, hasSuperframe};
 
+// The six codes that the table names, and all others.
 pub enum S2Xv2Mode {
     // Reserved for future use (0).
     Reserved0,

@@ -2,16 +2,19 @@
 ghost use mathlib.Core.Path.{_≡_};
 ghost use Rattle.s2xv2.specs.Options.{selected, orZero8, orZero32};
 
+// A flag that may be absent.
 pub enum OptionBool {
     None,
     Some(bool),
 }
 
+// A number of one byte that may be absent.
 pub enum OptionU8 {
     None,
     Some(u8),
 }
 
+// A number of four bytes that may be absent.
 pub enum OptionU32 {
     None,
     Some(u32),

@@ -7,6 +7,7 @@ use crate::option::OptionU8;
 use crate::option::OptionU32;
 use crate::superframe::OptionSuperframe;
 
+// The record: the fields of a body in wire order.
 pub struct S2Xv2SatelliteDeliverySystem {
     // delivery_system_id, 32 bits.
     pub delivery_system_id: u32,

@@ -5,6 +5,7 @@ ghost use Rattle.s2xv2.specs.Encode.{blockLength};
 use crate::option::OptionU8;
 use crate::option::OptionU32;
 
+// The fields of the block in wire order.
 pub struct S2Xv2Superframe {
     // SOSF_WH_sequence_number, 8 bits.
     pub sosf_wh_sequence_number: u8,
@@ -30,6 +31,7 @@ pub struct S2Xv2Superframe {
     pub postamble_pli: u8,
 }
 
+// A superframe block that may be absent.
 pub enum OptionSuperframe {
     None,
     Some(S2Xv2Superframe),

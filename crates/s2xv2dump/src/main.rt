@@ -54,6 +54,7 @@ fn print(text: &[u8], n: usize) {
     }
 }
 
+// Reads the body, and prints its text or that it could not be read.
 fn main() {
     let mut body = [0u8; 4097];
     let input = read_all(&mut body);

@@ -85,6 +85,7 @@ fn record(x: u8) -> S2Xv2SatelliteDeliverySystem {
     r
 }
 
+// Stores one record in an empty slot, and then another over it, one store at a time.
 fn main() {
     let mut s = [0u8; 25];
     slot::empty::make_empty(&mut s);

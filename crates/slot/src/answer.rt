@@ -2,6 +2,7 @@
 use s2xv2::answer::Refusal;
 use s2xv2::record::S2Xv2SatelliteDeliverySystem;
 
+// What a slot holds, or why it cannot be told; also the answer of the call that empties one.
 pub enum SlotAnswer {
     // The slot holds a record: where its tail starts, counted from the slot's start, and how long it is.
     Accepted { place: usize, length: usize },

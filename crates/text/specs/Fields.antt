@@ -1,5 +1,8 @@
 -- A record as lines, each field that is on the wire under the name that the Rust has for it, in wire order: `coreOf`, `partsOf` and
 -- `superframeOf`. What stands behind a field that is absent has no line. Assumes nothing.
+-- The core: `startOf`, `flagsOf`, `bondOf` with `topOf` for the top bit of byte 6, `carrierOf`, some four lines each. The parts: `line8` and
+-- `line32` of a number that may be absent, `scramblingOf` the index, `bondsOf` the ids, with `idOf` for one and `secondOf` for the second.
+-- A superframe block: `blockOf`, made of `blockStartOf`, `blockMiddleOf` with `nibbleOf` for SFFI's place, and `blockEndOf`.
 use Prim.Native.Nat.{ℕ}
 use mathlib.Core.List.{List, [], _∷_}
 use lib.ListN.{getD}

@@ -41,6 +41,7 @@ fn numbers(out: &mut [u8], at: usize, why: Refusal) -> usize
     }
 }
 
+// The one line of a body that is refused.
 fn refused(out: &mut [u8], at: usize, why: Refusal) -> usize
     ensures { λ n. ⌜ Wrote (now (out .entry) from at) (refusedOf (Answer·numbers why)) (now (out .exit) from n) ⌝ }
 {
@@ -49,6 +50,7 @@ fn refused(out: &mut [u8], at: usize, why: Refusal) -> usize
     put(out, at, b'\n')
 }
 
+// The lines of a body that is accepted.
 fn accepted(
     out: &mut [u8],
     at: usize,

@@ -12,12 +12,14 @@ use s2xv2::mode::S2Xv2Mode;
 use s2xv2::option::OptionBool;
 use s2xv2::record::S2Xv2SatelliteDeliverySystem;
 
+// The mode, by its code.
 fn mode(out: &mut [u8], at: usize, kind: S2Xv2Mode) -> usize
     ensures { λ n. ⌜ Wrote (now (out .entry) from at) (lineOf (codes "s2xv2_mode") (codeOf kind)) (now (out .exit) from n) ⌝ }
 {
     line8(out, at, b"s2xv2_mode", kind.to_u8())
 }
 
+// The body's length and the first fields, to multiple_input_stream_flag.
 fn start(out: &mut [u8], at: usize, length: u64, r: S2Xv2SatelliteDeliverySystem) -> usize
     ensures { λ n. ⌜ Wrote (now (out .entry) from at) (startOf length r) (now (out .exit) from n) ⌝ }
 {
@@ -33,6 +35,7 @@ fn start(out: &mut [u8], at: usize, length: u64, r: S2Xv2SatelliteDeliverySystem
     )
 }
 
+// roll_off to ncr_version.
 fn flags(out: &mut [u8], at: usize, r: S2Xv2SatelliteDeliverySystem) -> usize
     ensures { λ n. ⌜ Wrote (now (out .entry) from at) (flagsOf r) (now (out .exit) from n) ⌝ }
 {
@@ -57,6 +60,7 @@ fn top(out: &mut [u8], at: usize, selector: OptionBool, reserved: u8) -> usize
     }
 }
 
+// channel_bond to ts_gs_s2x_mode.
 fn bond(out: &mut [u8], at: usize, r: S2Xv2SatelliteDeliverySystem) -> usize
     ensures { λ n. ⌜ Wrote (now (out .entry) from at) (bondOf r) (now (out .exit) from n) ⌝ }
 {
@@ -67,6 +71,7 @@ fn bond(out: &mut [u8], at: usize, r: S2Xv2SatelliteDeliverySystem) -> usize
     line8(out, at, b"ts_gs_s2x_mode", r.ts_gs_s2x_mode)
 }
 
+// receiver_profiles to symbol_rate.
 fn carrier(out: &mut [u8], at: usize, r: S2Xv2SatelliteDeliverySystem) -> usize
     ensures { λ n. ⌜ Wrote (now (out .entry) from at) (carrierOf r) (now (out .exit) from n) ⌝ }
 {
@@ -76,6 +81,7 @@ fn carrier(out: &mut [u8], at: usize, r: S2Xv2SatelliteDeliverySystem) -> usize
     line32(out, at, b"symbol_rate", r.symbol_rate)
 }
 
+// The lines of the body's length and of the core.
 pub(crate) fn core(out: &mut [u8], at: usize, length: u64, r: S2Xv2SatelliteDeliverySystem) -> usize
     ensures { λ n. ⌜ Wrote (now (out .entry) from at) (coreOf length r) (now (out .exit) from n) ⌝ }
 {

@@ -8,6 +8,7 @@ use s2xv2::option::OptionU8;
 use s2xv2::option::OptionU32;
 use s2xv2::record::S2Xv2SatelliteDeliverySystem;
 
+// A part of one byte, where it is there.
 fn part(out: &mut [u8], at: usize, name: &[u8], v: OptionU8) -> usize
     ensures { λ n. ⌜ Wrote (now (out .entry) from at) (Fields·line8 (now (name .entry)) v) (now (out .exit) from n) ⌝ }
 {
@@ -17,6 +18,7 @@ fn part(out: &mut [u8], at: usize, name: &[u8], v: OptionU8) -> usize
     }
 }
 
+// The scrambling index and what is reserved before it, where they are there.
 fn scrambling(out: &mut [u8], at: usize, index: OptionU32, reserved: u8) -> usize
     ensures { λ n. ⌜ Wrote (now (out .entry) from at) (scramblingOf index reserved) (now (out .exit) from n) ⌝ }
 {
@@ -29,12 +31,14 @@ fn scrambling(out: &mut [u8], at: usize, index: OptionU32, reserved: u8) -> usiz
     }
 }
 
+// One id.
 fn id(out: &mut [u8], at: usize, v: u32) -> usize
     ensures { λ n. ⌜ Wrote (now (out .entry) from at) (idOf v) (now (out .exit) from n) ⌝ }
 {
     line32(out, at, b"secondary_delivery_system_id", v)
 }
 
+// The second id, unless the count is 1.
 fn second(out: &mut [u8], at: usize, count: u8, v: u32) -> usize
     ensures { λ n. ⌜ Wrote (now (out .entry) from at) (secondOf count v) (now (out .exit) from n) ⌝ }
 {
@@ -53,6 +57,7 @@ fn bonds(out: &mut [u8], at: usize, count: u8, reserved: u8, a: u32, b: u32) -> 
     second(out, at, count, b)
 }
 
+// The lines of the parts between the core and the superframe block.
 pub(crate) fn parts(out: &mut [u8], at: usize, r: S2Xv2SatelliteDeliverySystem) -> usize
     ensures { λ n. ⌜ Wrote (now (out .entry) from at) (partsOf r) (now (out .exit) from n) ⌝ }
 {

@@ -10,6 +10,7 @@ use s2xv2::option::OptionU32;
 use s2xv2::superframe::OptionSuperframe;
 use s2xv2::superframe::S2Xv2Superframe;
 
+// SOSF_WH to what is reserved behind the selectors.
 fn block_start(out: &mut [u8], at: usize, f: S2Xv2Superframe) -> usize
     ensures { λ n. ⌜ Wrote (now (out .entry) from at) (blockStartOf f) (now (out .exit) from n) ⌝ }
 {
@@ -34,6 +35,7 @@ fn block_start(out: &mut [u8], at: usize, f: S2Xv2Superframe) -> usize
     )
 }
 
+// SFFI, or what is reserved in its place.
 fn nibble(out: &mut [u8], at: usize, sffi: OptionU8, reserved: u8) -> usize
     ensures { λ n. ⌜ Wrote (now (out .entry) from at) (nibbleOf sffi reserved) (now (out .exit) from n) ⌝ }
 {
@@ -43,6 +45,7 @@ fn nibble(out: &mut [u8], at: usize, sffi: OptionU8, reserved: u8) -> usize
     }
 }
 
+// The plan id, where it is there.
 fn plan(out: &mut [u8], at: usize, name: &[u8], id: OptionU32) -> usize
     ensures { λ n. ⌜ Wrote (now (out .entry) from at) (Fields·line32 (now (name .entry)) id) (now (out .exit) from n) ⌝ }
 {
@@ -52,6 +55,7 @@ fn plan(out: &mut [u8], at: usize, name: &[u8], id: OptionU32) -> usize
     }
 }
 
+// The reference index to the plan id.
 fn block_middle(out: &mut [u8], at: usize, f: S2Xv2Superframe) -> usize
     ensures { λ n. ⌜ Wrote (now (out .entry) from at) (blockMiddleOf f) (now (out .exit) from n) ⌝ }
 {
@@ -73,6 +77,7 @@ fn block_middle(out: &mut [u8], at: usize, f: S2Xv2Superframe) -> usize
     plan(out, at, b"beamhopping_time_plan_id", id)
 }
 
+// The last byte.
 fn block_end(out: &mut [u8], at: usize, f: S2Xv2Superframe) -> usize
     ensures { λ n. ⌜ Wrote (now (out .entry) from at) (blockEndOf f) (now (out .exit) from n) ⌝ }
 {
@@ -85,6 +90,7 @@ fn block_end(out: &mut [u8], at: usize, f: S2Xv2Superframe) -> usize
     line8(out, at, b"postamble_pli", f.postamble_pli)
 }
 
+// The lines of a block.
 fn block(out: &mut [u8], at: usize, f: S2Xv2Superframe) -> usize
     ensures { λ n. ⌜ Wrote (now (out .entry) from at) (blockOf f) (now (out .exit) from n) ⌝ }
 {
@@ -93,6 +99,7 @@ fn block(out: &mut [u8], at: usize, f: S2Xv2Superframe) -> usize
     block_end(out, at, f)
 }
 
+// The lines of a block that may be absent: none then.
 pub(crate) fn superframe(out: &mut [u8], at: usize, f: OptionSuperframe) -> usize
     ensures { λ n. ⌜ Wrote (now (out .entry) from at) (superframeOf f) (now (out .exit) from n) ⌝ }
 {

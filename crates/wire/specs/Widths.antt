@@ -1,6 +1,8 @@
 -- A part of the wire is a list of widths, in wire order. Reading cuts fields along it (`cut`, `give`, `read`), writing packs values
 -- along it (`pack`); `size` is how many bytes it takes, `Fit` says that values are as many and as small as the widths ask, `Bytes`
 -- that a list holds bytes. Assumes nothing. All are `abbrev`s: at numerals they compute to arithmetic of bytes.
+-- `total` is the size in bits, `cutFrom` cuts from some bits on, `Over` is the type of a function of as many numbers as there are widths;
+-- `be` is a number as bytes, `beside` puts a field behind bits that wait for their byte, and `packFrom` packs behind such bits.
 use Prim.Native.Nat.{ℕ, zero, suc, _+_, _*_, _/_, _%_, _^_, _<_}
 use mathlib.Core.List.{List, [], _∷_, _++_}
 use lib.ListN.{getD, drop}
