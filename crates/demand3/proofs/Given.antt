@@ -87,8 +87,7 @@ module _ (j : Job) (n : ℕ) (e : fair j n ≡ true) where
       let f = fair-facts j n e in
       let F = f .1 in
       let q = stuffing-length n in
-      let a = after-steps there (j .«stores_made» ∷ []) in
-      (
+      let a = after-steps there (j .«stores_made» ∷ []) in (
         ap (λ (g : Going). g .job .«slot_size») a ∙ q ∙ sym (f .0),
         ap (λ (g : Going). g .job .«descriptor_size») a ∙ size-is defaultRecord (zeros (j .«descriptor_size»)) ∙ zeros-size (j .«descriptor_size») (F .least),
         ap (λ (g : Going). g .job .«stores_made») a ∙ omega arith,
