@@ -3,3 +3,4 @@ pub mod Stuffing
 pub mod GoodForm
 pub mod Laws
 pub mod Equal
+pub mod Cases

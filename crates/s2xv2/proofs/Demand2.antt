@@ -3,7 +3,7 @@
 -- Assumes nothing.
 use mathlib.Core.Logic.{_↔_}
 use mathlib.Core.Path.{_≡_, sym, ap, _∙_}
-use mathlib.Core.List.{List, [], _∷_}
+use mathlib.Core.List.{List, [], _∷_, _++_}
 use mathlib.Core.Bool.{Bool, true, false}
 use Prim.Native.Nat.{ℕ, _+_, _≤_, _<_}
 use native.Mathlib.Omega.{arith}
@@ -12,12 +12,12 @@ use Rattle.wire.specs.Bits.{bits}
 use Rattle.wire.specs.Widths.{Bytes}
 use Rattle.wire.specs.Parts.{sizes}
 use Rattle.s2xv2.specs.Table144c.{hasSelector}
-use Rattle.s2xv2.specs.Read.{presentIn, streamEnd, timesliceEnd, superframeAt, bodySize, recordIn, numberOf, readTold, readOf, tailOf}
+use Rattle.s2xv2.specs.Read.{presentIn, streamEnd, timesliceEnd, superframeAt, bodySize, recordIn, numberOf, readTold, readOf, tailOf, Reading}
 use Rattle.s2xv2.specs.Encode.{partsOf, encode, encodedLength}
 use Rattle.s2xv2.specs.ListA.{inconsistency}
 use Rattle.s2xv2.specs.ListB.{unwritable}
 use Rattle.s2xv2.specs.Length.{lengthTold}
-use Rattle.s2xv2.specs.Write.{writeTold}
+use Rattle.s2xv2.specs.Write.{writeTold, written}
 use Rattle.s2xv2.specs.Carried.{carried}
 use Rattle.s2xv2.specs.Held.{Held}
 use Rattle.s2xv2.specs.declared.record.S2Xv2SatelliteDeliverySystem.{S2Xv2SatelliteDeliverySystem}
@@ -28,7 +28,7 @@ use Rattle.s2xv2.proofs.Whole.{encode-length}
 use Rattle.s2xv2.proofs.Round as round
 use Rattle.s2xv2.proofs.Back as back
 use Rattle.s2xv2.proofs.Domain.{read-consistent, read-writable, read-held, read-carried}
-use Rattle.s2xv2.proofs.Written.{accepted-length, accepted-writable, told-room, told-field, told-written}
+use Rattle.s2xv2.proofs.Written.{accepted-length, accepted-writable, written-accepted, told-room, told-field, told-written}
 
 -- ---- reading
 
@@ -85,6 +85,24 @@ write-read-accepted s y z room k =
     simp (told-accepted s (h .0) (h .1))
     (told-written (recordIn s) (drop (bodySize s) s) (read-consistent s) (omega (arith, e, h .1)) room (omega (arith, e, k)) (read-writable s y)
     ∙ ap (λ (n : ℕ). 0 ∷ n ∷ []) e)
+
+-- .. In a buffer with room it leaves the body's bytes, and the old bytes behind them.
+pub rewritten : (s buf : List ℕ) → Bytes s → numberOf (readTold s) ≡ 0 → length s ≤ length buf → written (readOf s .body) (tailOf s) buf ≡ s ++ drop (length s) buf
+rewritten s buf y z k =
+    let e = write-read s y z in
+    let l : encodedLength (readOf s .body) (tailOf s) ≡ length s = sym (encode-length _ _) ∙ ap length e in
+    written-accepted (readOf s .body) (tailOf s) buf (length s) (sym (write-read-accepted s y z (length buf) k)) ∙ rw (e, l)
+
+-- What the wire does not carry of a record, the writer ignores: without it the record is written as the same bytes.
+pub ignored : (r : S2Xv2SatelliteDeliverySystem) (tail : List ℕ) (room : ℕ) → Held r → Bytes tail → numberOf (writeTold r tail room) ≡ 0
+    → encode (carried r) tail ≡ encode r tail
+ignored r tail room h y z =
+    let w = accepted-writable r tail room z in
+    let p = read-written r tail room h y z in
+    let b = round.encode-bytes r tail (w .consistent) (w .carried) h y (w .within) in
+    let a : numberOf (readTold (encode r tail)) ≡ 0 = ap (λ (x : Reading). numberOf (x .told)) (p .0) in
+    let c : encode (readOf (encode r tail) .body) (tailOf (encode r tail)) ≡ encode r tail = write-read (encode r tail) b a in
+    ap (λ (x : Reading). encode (x .body) tail) (sym (p .0)) ∙ ap (encode (readOf (encode r tail) .body)) (sym (p .1)) ∙ c
 
 -- The wire carries all of a record that was read.
 pub carried-read : (s : List ℕ) → carried (recordIn s) ≡ recordIn s

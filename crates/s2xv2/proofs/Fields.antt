@@ -8,10 +8,11 @@ use Prim.Native.Nat.{ℕ, _+_}
 use lib.ListN.{getD}
 use lib.Dec.{eqb}
 use borrow.Author.Tests.{eqb-true}
-use Rattle.wire.specs.Flags.{when, isOne}
+use Rattle.wire.specs.Flags.{when, isOne, and}
 use Rattle.wire.specs.Bits.{bits}
-use Rattle.s2xv2.specs.Table144c.{modeOf, codeOf, hasSelector}
-use Rattle.s2xv2.specs.Read.{presentIn, streamEnd, timesliceEnd, superframeAt, recordAt, recordIn}
+use Rattle.s2xv2.specs.Table144c.{modeOf, codeOf, hasSelector, hasTimeslice, hasSuperframe}
+use Rattle.s2xv2.specs.Read.{presentIn, streamEnd, scramblingEnd, timesliceEnd, superframeAt, recordAt, recordIn}
+use Rattle.s2xv2.specs.declared.layout.Present.{Present}
 use Rattle.s2xv2.specs.declared.option.OptionBool.the-variants as OB
 use Rattle.s2xv2.specs.declared.option.OptionU8.the-variants as O8
 use Rattle.s2xv2.specs.declared.option.OptionU32.the-variants as O32
@@ -63,6 +64,17 @@ module _ (s : List ℕ) where
   unfolding recordAt
   reserved-1-bit e = simp e
 
+  -- Which parts are there: by the stream flag, by the mode and its selector, by the mode, by channel_bond, by the mode.
+  pub present-bits : presentIn s ≡ record {
+    stream = isOne (bits s 4 4 1);
+    scrambling = and (hasSelector (modeOf (bits s 4 0 4))) (isOne (bits s 6 0 1));
+    timeslice = hasTimeslice (modeOf (bits s 4 0 4));
+    bond = eqb (bits s 5 4 2) 1;
+    superframe = hasSuperframe (modeOf (bits s 4 0 4));
+  }
+  unfolding presentIn
+  present-bits = refl
+
   -- The stream id, at byte 18.
   pub stream-byte : presentIn s .stream ≡ true → recordIn s .«input_stream_identifier» ≡ O8.Some (bits s 18 0 8)
   unfolding recordAt
@@ -75,6 +87,11 @@ module _ (s : List ℕ) where
   unfolding recordAt
   scrambling-fields e = simp e (refl, refl)
 
+  -- The timeslice, behind the scrambling index.
+  pub timeslice-byte : presentIn s .timeslice ≡ true → recordIn s .«timeslice_number» ≡ O8.Some (bits s (scramblingEnd (presentIn s)) 0 8)
+  unfolding recordAt
+  timeslice-byte e = simp e
+
   -- The header of the bonds and their first id, behind the timeslice.
   pub bond-fields : presentIn s .bond ≡ true
       → (recordIn s .«reserved_zero_future_use_7» ≡ bits s (timesliceEnd (presentIn s)) 0 7)
@@ -82,6 +99,12 @@ module _ (s : List ℕ) where
       × (getD (recordIn s .«secondary_delivery_system_ids») 0 0 ≡ bits s (timesliceEnd (presentIn s) + 1) 0 32)
   unfolding recordAt
   bond-fields e = simp e (refl, refl, refl)
+
+  -- The second id, behind the first.
+  pub second-id : presentIn s .bond ≡ true → isOne (bits s (timesliceEnd (presentIn s)) 7 1) ≡ true
+      → getD (recordIn s .«secondary_delivery_system_ids») 1 0 ≡ bits s (timesliceEnd (presentIn s) + 5) 0 32
+  unfolding recordAt
+  second-id e d = simp (e, d)
 
   -- The superframe block that starts at byte p, but for its plan id and last byte.
   pub block-fields : (p : ℕ) (plan : Bool)
