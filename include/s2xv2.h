@@ -34,7 +34,8 @@ typedef struct {
     size_t third;
 } S2xv2Answer;
 
-/* A flag is a byte, 0 or 1. A number that may be absent has a flag `has_` beside it, and is 0 where it is absent. */
+/* A flag is a byte, 0 or 1. A number that may be absent has a flag `has_` beside it: where that is 0 the number comes back as 0, and is not looked at when it is sent. A record that is
+   cleared to zeros and then filled has no flag that is neither. */
 typedef struct {
     uint32_t reference_scrambling_index;
     uint32_t payload_scrambling_index;

@@ -16,7 +16,7 @@ same-advanced a b e =
     ap {B = Advanced} (λ (x : StepAnswer). record { answer = x; stores = a .stores; done = a .done }) (same-step-told (a .answer) (b .answer) (ap (λ (x : Tells). x .told) e))
     ∙ ap {B = Advanced} (λ (x : Tells). record { answer = b .answer; stores = x .made; done = x .done }) e
 
--- `step_in_place`, and `step_on_site` of `onsite`, which has the same contract: the answer, the job, and the slot
+-- `step_in_place`: the answer, the job, and the slot
 module _ (j : Job) (s : List ℕ) (n : ℕ) where
   pub in-place-equal : (a b : Advanced) → advancedSeen a ≡ tells (stepOf j (length s) n) → advancedSeen b ≡ tells (stepOf j (length s) n) → a ≡ b
   in-place-equal a b p q = same-advanced a b (p ∙ sym q)
