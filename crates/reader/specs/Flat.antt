@@ -8,7 +8,7 @@ use Rattle.wire.specs.Widths.{size, cut, give}
 use Rattle.s2xv2.specs.Table144b as T
 use Rattle.s2xv2.specs.Table144c.{modeOf, hasSelector}
 use Rattle.s2xv2.specs.Options.{orZero8, orZero32, some8If, someSuperframeIf}
-use Rattle.s2xv2.specs.Read.{planAt, superframeAt, byteAt, reserved6At, indexAt, reserved7At, countIf, firstIdAt, secondIdAt}
+use Rattle.s2xv2.specs.Read.{planAt, superframeAt, byteAt, timesliceAt, reserved6At, indexAt, reserved7At, countIf, firstIdAt, secondIdAt}
 use Rattle.s2xv2.specs.declared.layout.Present.{Present}
 use Rattle.s2xv2.specs.declared.layout.Ends.{Ends}
 use Rattle.flat.specs.Output.{isReserved, superframeOut}
@@ -62,7 +62,7 @@ flatRecordAt s k e =
       «reserved_zero_future_use_6» = reserved6At s (e .stream) (k .scrambling);
       «has_scrambling_sequence_index» = bit (k .scrambling);
       «has_timeslice_number» = bit (k .timeslice);
-      «timeslice_number» = orZero8 (byteAt s (e .scrambling) (k .timeslice));
+      «timeslice_number» = orZero8 (timesliceAt s (e .scrambling) (k .timeslice));
       «reserved_zero_future_use_7» = reserved7At s (e .timeslice) (k .bond);
       «num_channel_bonds» = countIf (k .bond) (e .second);
       «has_superframe» = bit (k .superframe);

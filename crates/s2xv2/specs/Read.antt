@@ -5,7 +5,7 @@
 -- Which parts: `presentFrom` the values of the core; `hasSecond` asks a bond header for a second id, `hasPlan` a block for a plan id.
 -- Where: `only` counts what is there; `streamEnd`, `scramblingEnd`, `timesliceEnd`, `bondEnd` by `bondSize`, `superframeEnd` by
 -- `superframeSize`; `planSize` is as far as a plan id goes. A `Need`, made by `_to_`, is a place with its end.
--- The record: `byteAt` is the stream id or the timeslice at a byte, `reserved6At`, `indexAt`, `reserved7At`, `firstIdAt` and `secondIdAt` are
+-- The record: `byteAt` is the stream id, `timesliceAt` the timeslice, `reserved6At`, `indexAt`, `reserved7At`, `firstIdAt` and `secondIdAt` are
 -- the other fields, `countIf` the bonds' count; `superframeFrom` its values is a block, `planAt` its plan id, `superframeAt` the block at
 -- a byte; `recordFrom` all of these is the record, and `recordAt` the one of a body whose parts stand as told.
 -- The answer: `numberOf` it is its first number, `shortTold` is 1 or what else is told, `Reading` is an answer with the record.
@@ -47,7 +47,7 @@ presentIn s = presentFrom (cut s 0 T.core)
 
 -- ---- where each part ends
 
--- so many bytes, if the part is there
+-- so many bytes, or a value, if the part is there, and 0 if not
 abbrev pub only : Bool → ℕ → ℕ
 only there n = when there n 0
 
@@ -161,6 +161,9 @@ superframeAt s p plan =
 abbrev pub byteAt : List ℕ → ℕ → Bool → OptionU8
 byteAt s p there = some8If there (read T.streamId s p (λ v. v))
 
+abbrev pub timesliceAt : List ℕ → ℕ → Bool → OptionU8
+timesliceAt s p there = some8If there (read T.timeslice s p (λ v. v))
+
 abbrev pub reserved6At : List ℕ → ℕ → Bool → ℕ
 reserved6At s p there = only there (read T.scrambling s p (λ reserved _. reserved))
 
@@ -214,7 +217,7 @@ recordAt s k e =
     recordFrom (cut s 0 T.core)
     (byteAt s (size T.core) (k .stream))
     (reserved6At s (e .stream) (k .scrambling)) (indexAt s (e .stream) (k .scrambling))
-    (byteAt s (e .scrambling) (k .timeslice))
+    (timesliceAt s (e .scrambling) (k .timeslice))
     (reserved7At s (e .timeslice) (k .bond)) (countIf (k .bond) (e .second))
     (firstIdAt s (e .timeslice) (k .bond)) (secondIdAt s (e .timeslice) (k .bond) (e .second))
     (someSuperframeIf (k .superframe) (superframeAt s (e .bond) (e .plan)))
