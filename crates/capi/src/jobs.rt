@@ -33,6 +33,7 @@ pub struct FlatAdvanced {
     pub done: u8,
 }
 
+// The job after the step, and what the step tells.
 #[repr(C)]
 pub struct FlatStepped {
     pub job: Job,

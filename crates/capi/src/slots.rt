@@ -14,6 +14,7 @@ use flat::types::FlatParsed;
 use flat::types::FlatPart;
 use slot::answer::SlotAnswer;
 
+// An answer about a slot: accepted with the tail's place and length, 0 and 0 for an empty slot, or the refusal.
 fn slot_answer_out(answer: SlotAnswer) -> FlatAnswer
     ensures { λ r. ⌜ r ≡ answerOut (slotTold answer) ⌝ }
 {
@@ -38,6 +39,7 @@ pub extern "C" fn s2xv2_slot_read(s: &[u8]) -> FlatParsed
     }
 }
 
+// The part that an answer tells: the empty part at the start where there is no record.
 fn slot_part(answer: SlotAnswer) -> FlatPart
     ensures { λ r. ⌜ r ≡ toldPart (slotTold answer) ⌝ }
 {

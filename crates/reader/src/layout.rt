@@ -31,6 +31,7 @@ pub(crate) fn without(a: bool, b: bool) -> bool
     if a { false } else { b }
 }
 
+// Two bytes are the same.
 fn equals(a: u8, b: u8) -> bool
     ensures { λ r. ⌜ r ≡ eqb a b ⌝ }
 {

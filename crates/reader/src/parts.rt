@@ -40,6 +40,7 @@ pub(crate) fn byte_at(s: &[u8], p: usize, there: bool) -> u8
     if there { octet(s, p) } else { 0 }
 }
 
+// The scrambling part: six bits that are reserved, and the index.
 pub(crate) fn scrambling_at(s: &[u8], p: usize, there: bool) -> Scrambling
     requires { ⌜ p + only there 3 ≤ length (now s) ⌝ }
     ensures { λ r. ⌜ r ≡ scramblingAt (now (s .entry)) p there ⌝ }
@@ -57,6 +58,7 @@ pub(crate) fn scrambling_at(s: &[u8], p: usize, there: bool) -> Scrambling
     }
 }
 
+// The bonds: their header, and one id or two.
 pub(crate) fn bonds_at(s: &[u8], p: usize, there: bool, second: bool) -> Bonds
     requires { ⌜ p + only there (bondSize second) ≤ length (now s) ⌝ }
     ensures { λ r. ⌜ r ≡ bondsAt (now (s .entry)) p there second ⌝ }
@@ -87,20 +89,21 @@ pub(crate) fn bonds_at(s: &[u8], p: usize, there: bool, second: bool) -> Bonds
     }
 }
 
-// A number that stands only where a flag is clear, and one that stands only where it is set.
+// A number that stands only where a flag is clear.
 fn unless(taken: bool, v: u8) -> u8
     ensures { λ r. ⌜ r ≡ when taken 0 v ⌝ }
 {
     if taken { 0 } else { v }
 }
 
+// A number that stands only where a flag is set.
 fn given(set: bool, v: u8) -> u8
     ensures { λ r. ⌜ r ≡ orZero8 (some8If set v) ⌝ }
 {
     if set { v } else { 0 }
 }
 
-// The plan id of a superframe block, and where the block's last byte stands.
+// The plan id of a superframe block.
 fn plan_at(s: &[u8], p: usize, plan: bool) -> u32
     requires { ⌜ p + superframeSize plan ≤ length (now s) ⌝ }
     ensures { λ r. ⌜ r ≡ orZero32 (planAt (now (s .entry)) p plan) ⌝ }
@@ -108,6 +111,7 @@ fn plan_at(s: &[u8], p: usize, plan: bool) -> u32
     if plan { be32(s, p + 7) } else { 0 }
 }
 
+// Where the last byte of a superframe block stands.
 fn last_at(p: usize, plan: bool) -> usize
     requires { ⌜ p < 100 ⌝ }
     ensures { λ r. ⌜ (r ≡ p + when plan 11 7) × (r + 1 ≡ p + superframeSize plan) × (p + 7 ≤ r) ⌝ }
