@@ -2,7 +2,7 @@
    loop by single-byte stores with a place to stop between any two, from C11 or C++.
 
    Every call takes any bytes, record, slot or job, and refuses the bad ones by number; none traps, and a refused call stores nothing. A pointer whose length is 0 may
-   be null. Link with libcapi.a, which `rt staticlib capi` writes for x86-64. */
+   be null. Nothing that is lent to a call is kept; what it may write (a buffer, a slot, a job) must not overlap anything else that is lent to it. Link with libcapi.a, which `rt staticlib capi` writes for x86-64. */
 #ifndef S2XV2_H
 #define S2XV2_H
 
