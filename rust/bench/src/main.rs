@@ -2,17 +2,18 @@
 //!
 //!     bench parse|serialize|length crate|library|safe|empty SET REPEATS
 //!     bench allocate crate SET REPEATS
-//!     bench begin library|empty SIZE REPEATS
-//!     bench job value|place|empty SIZE/ALLOWANCE REPEATS
+//!     bench begin library|empty SLOT REPEATS
+//!     bench job value|place|empty SLOT/ALLOWANCE REPEATS
 //!     bench agree                  tells whether all sides do the same on every input, and the inputs are as docs/SPEED.md says
 //!
-//! SET is `mixed`, `no-ids` or `no-tail`; an ALLOWANCE may be `all`. The side `empty` is the loop with no call in it.
+//! SET is `mixed`, `no-ids` or `no-tail`. SLOT is a size, with `=` behind it for descriptors that fill it; an ALLOWANCE may be `all`. The side `empty` is the loop with no call in it.
 mod boundary;
 mod inputs;
 mod rows;
 mod slots;
 
 use inputs::{bodies, Set};
+use slots::Kind;
 use std::process::ExitCode;
 
 fn set(name: &str) -> Option<Set> {
@@ -31,19 +32,27 @@ fn row(name: &str, side: &str, inputs: &str, repeats: &str) -> Option<usize> {
         "serialize" => rows::serialize(side, &bodies(set(inputs)?), repeats),
         "length" => rows::length(side, &bodies(set(inputs)?), repeats),
         "allocate" => Some(rows::allocate(&bodies(set(inputs)?), repeats)),
-        "begin" => slots::begin(side, inputs.parse().ok()?, repeats),
+        "begin" => slots::begin(side, slot(inputs)?, repeats),
         "job" => job(side, inputs, repeats),
         _ => None,
     }
 }
 
+fn slot(words: &str) -> Option<Kind> {
+    let size = words.trim_end_matches('=');
+    Some(Kind {
+        size: size.parse().ok()?,
+        filled: size != words,
+    })
+}
+
 fn job(side: &str, inputs: &str, repeats: usize) -> Option<usize> {
-    let (size, allowance) = inputs.split_once('/')?;
+    let (words, allowance) = inputs.split_once('/')?;
     let allowance = match allowance {
         "all" => usize::MAX,
         number => number.parse().ok()?,
     };
-    slots::job(side, size.parse().ok()?, allowance, repeats)
+    slots::job(side, slot(words)?, allowance, repeats)
 }
 
 fn agree() -> Option<usize> {
