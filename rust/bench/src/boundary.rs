@@ -69,53 +69,42 @@ pub struct Parsed {
     pub body: Record,
 }
 
+#[repr(C)]
+#[derive(Clone, Copy)]
+pub struct Job {
+    pub staged: [u8; 257],
+    pub slot_size: usize,
+    pub descriptor_size: usize,
+    pub stores_made: usize,
+}
+
+#[repr(C)]
+#[derive(Clone, Copy)]
+pub struct Begun {
+    pub answer: Answer,
+    pub job: Job,
+}
+
+#[repr(C)]
+#[derive(Clone, Copy)]
+pub struct Advanced {
+    pub stores: usize,
+    pub number: u8,
+    pub done: u8,
+}
+
+#[repr(C)]
+#[derive(Clone, Copy)]
+pub struct Stepped {
+    pub job: Job,
+    pub told: Advanced,
+}
+
 extern "C" {
     pub fn s2xv2_parse(body: *const u8, length: usize) -> Parsed;
     pub fn s2xv2_serialized_len(record: Record, tail: *const u8, tail_length: usize) -> Answer;
     pub fn s2xv2_serialize_into(record: Record, tail: *const u8, tail_length: usize, buffer: *mut u8, buffer_length: usize) -> Answer;
-}
-
-#[cfg(feature = "slots")]
-pub use slots::*;
-
-#[cfg(feature = "slots")]
-mod slots {
-    use super::{Answer, Record};
-
-    #[repr(C)]
-    #[derive(Clone, Copy)]
-    pub struct Job {
-        pub staged: [u8; 257],
-        pub slot_size: usize,
-        pub descriptor_size: usize,
-        pub stores_made: usize,
-    }
-
-    #[repr(C)]
-    #[derive(Clone, Copy)]
-    pub struct Begun {
-        pub answer: Answer,
-        pub job: Job,
-    }
-
-    #[repr(C)]
-    #[derive(Clone, Copy)]
-    pub struct Advanced {
-        pub stores: usize,
-        pub number: u8,
-        pub done: u8,
-    }
-
-    #[repr(C)]
-    #[derive(Clone, Copy)]
-    pub struct Stepped {
-        pub job: Job,
-        pub told: Advanced,
-    }
-
-    extern "C" {
-        pub fn s2xv2_begin(slot: *const u8, size: usize, record: Record, tail: *const u8, tail_length: usize) -> Begun;
-        pub fn s2xv2_step(job: Job, slot: *mut u8, size: usize, allowance: usize) -> Stepped;
-        pub fn s2xv2_step_in_place(job: *mut Job, slot: *mut u8, size: usize, allowance: usize) -> Advanced;
-    }
+    pub fn s2xv2_begin(slot: *const u8, size: usize, record: Record, tail: *const u8, tail_length: usize) -> Begun;
+    pub fn s2xv2_step(job: Job, slot: *mut u8, size: usize, allowance: usize) -> Stepped;
+    pub fn s2xv2_step_in_place(job: *mut Job, slot: *mut u8, size: usize, allowance: usize) -> Advanced;
 }

@@ -8,7 +8,6 @@ pub enum Set {
     Mixed,
     NoIds,
     NoTail,
-    #[cfg(feature = "slots")]
     Core,
 }
 
@@ -61,7 +60,6 @@ fn shape(d: &mut Draws, set: Set) -> Shape {
     };
     match set {
         Set::NoIds if drawn.bond == 1 => Shape { bond: 0, ..drawn },
-        #[cfg(feature = "slots")]
         Set::Core => Shape {
             mode: 6 + drawn.mode % 10,
             stream: 0,

@@ -1,19 +1,19 @@
 //! Runs one row, so that the instructions of two runs with different repeats can be subtracted; prints the number of calls that it made.
 //!
-//!     bench parse|serialize|length crate|library|empty SET REPEATS
+//!     bench parse|serialize|length crate|library|safe|empty SET REPEATS
 //!     bench allocate crate SET REPEATS
-//!     bench begin library|empty SIZE REPEATS
-//!     bench job value|place|empty SIZE/ALLOWANCE REPEATS
-//!     bench agree                  tells whether both sides do the same on every input, and the inputs are as docs/SPEED.md says
+//!     bench begin library|empty SLOT REPEATS
+//!     bench job value|place|empty SLOT/ALLOWANCE REPEATS
+//!     bench agree                  tells whether all sides do the same on every input, and the inputs are as docs/SPEED.md says
 //!
-//! SET is `mixed`, `no-ids` or `no-tail`; an ALLOWANCE may be `all`. The side `empty` is the loop with no call in it.
+//! SET is `mixed`, `no-ids` or `no-tail`. SLOT is a size, with `=` behind it for descriptors that fill it; an ALLOWANCE may be `all`. The side `empty` is the loop with no call in it.
 mod boundary;
 mod inputs;
 mod rows;
-#[cfg(feature = "slots")]
 mod slots;
 
 use inputs::{bodies, Set};
+use slots::Kind;
 use std::process::ExitCode;
 
 fn set(name: &str) -> Option<Set> {
@@ -32,32 +32,33 @@ fn row(name: &str, side: &str, inputs: &str, repeats: &str) -> Option<usize> {
         "serialize" => rows::serialize(side, &bodies(set(inputs)?), repeats),
         "length" => rows::length(side, &bodies(set(inputs)?), repeats),
         "allocate" => Some(rows::allocate(&bodies(set(inputs)?), repeats)),
-        #[cfg(feature = "slots")]
-        "begin" => slots::begin(side, inputs.parse().ok()?, repeats),
-        #[cfg(feature = "slots")]
+        "begin" => slots::begin(side, slot(inputs)?, repeats),
         "job" => job(side, inputs, repeats),
         _ => None,
     }
 }
 
-#[cfg(feature = "slots")]
+fn slot(words: &str) -> Option<Kind> {
+    let size = words.trim_end_matches('=');
+    Some(Kind {
+        size: size.parse().ok()?,
+        filled: size != words,
+    })
+}
+
 fn job(side: &str, inputs: &str, repeats: usize) -> Option<usize> {
-    let (size, allowance) = inputs.split_once('/')?;
+    let (words, allowance) = inputs.split_once('/')?;
     let allowance = match allowance {
         "all" => usize::MAX,
         number => number.parse().ok()?,
     };
-    slots::job(side, size.parse().ok()?, allowance, repeats)
+    slots::job(side, slot(words)?, allowance, repeats)
 }
 
 fn agree() -> Option<usize> {
     let sets = [Set::Mixed, Set::NoIds, Set::NoTail];
-    #[cfg(feature = "slots")]
-    let stepped = slots::agree();
-    #[cfg(not(feature = "slots"))]
-    let stepped = true;
     let covered = rows::covered(&bodies(Set::Mixed));
-    (stepped && covered && sets.iter().all(|set| rows::agree(&bodies(*set)))).then_some(sets.len() * inputs::COUNT)
+    (slots::agree() && covered && sets.iter().all(|set| rows::agree(&bodies(*set)))).then_some(sets.len() * inputs::COUNT)
 }
 
 fn main() -> ExitCode {
@@ -69,7 +70,7 @@ fn main() -> ExitCode {
         _ => None,
     };
     let Some(calls) = calls else {
-        eprintln!("no such row in this build, or the two sides differ");
+        eprintln!("no such row, or the sides differ");
         return ExitCode::FAILURE;
     };
     println!("{calls}");

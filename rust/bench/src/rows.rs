@@ -1,10 +1,11 @@
-//! Reading, measuring and writing, by either side. The bodies that are read are cut where they are cut; the records that are written are
+//! Reading, measuring and writing, by the crate, by the library through its boundary, and by the safe crate over it. The bodies that are read are cut where they are cut; the records that are written are
 //! those of the same bodies uncut, made beforehand by the side that writes them.
 use crate::boundary::{self, s2xv2_parse, s2xv2_serialize_into, s2xv2_serialized_len};
 use crate::inputs::Body;
 use core::hint::black_box;
 use origin::descriptors::extension::s2xv2_satellite_delivery_system::S2Xv2SatelliteDeliverySystem as Record;
 use origin::descriptors::extension::{Parse, Serialize};
+use s2xv2::S2Xv2SatelliteDeliverySystem as Safe;
 
 pub const ROOM: usize = 64;
 
@@ -38,11 +39,16 @@ fn theirs(body: &[u8]) -> Record<'_> {
     Record::parse(body).expect("an uncut body")
 }
 
+fn safe(body: &[u8]) -> Safe<'_> {
+    Safe::parse(body).expect("an uncut body")
+}
+
 pub fn parse(side: &str, bodies: &[Body], repeats: usize) -> Option<usize> {
     let bodies: Vec<&[u8]> = bodies.iter().map(Body::lent).collect();
     Some(match side {
         "crate" => drive(&bodies, repeats, |body| Record::parse(body)),
         "library" => drive(&bodies, repeats, |body| unsafe { s2xv2_parse(body.as_ptr(), body.len()) }),
+        "safe" => drive(&bodies, repeats, |body| Safe::parse(body)),
         "empty" => drive(&bodies, repeats, |body| body.len()),
         _ => return None,
     })
@@ -64,6 +70,11 @@ fn by_crate<R>(bodies: &[Body], repeats: usize, call: impl FnMut(&Record) -> R) 
     drive(&records.iter().collect::<Vec<_>>(), repeats, call)
 }
 
+fn by_safe<R>(bodies: &[Body], repeats: usize, call: impl FnMut(&Safe) -> R) -> usize {
+    let records: Vec<Safe> = bodies.iter().map(|body| safe(&body.bytes)).collect();
+    drive(&records.iter().collect::<Vec<_>>(), repeats, call)
+}
+
 fn by_library<R>(bodies: &[Body], repeats: usize, call: impl FnMut(&Own) -> R) -> usize {
     let records: Vec<Own> = bodies.iter().map(|body| own(&body.bytes)).collect();
     drive(&records.iter().collect::<Vec<_>>(), repeats, call)
@@ -75,6 +86,7 @@ pub fn serialize(side: &str, bodies: &[Body], repeats: usize) -> Option<usize> {
     Some(match side {
         "crate" => by_crate(bodies, repeats, |record| record.serialize_into(&mut buffer)),
         "library" => by_library(bodies, repeats, |own| written(own, &mut buffer)),
+        "safe" => by_safe(bodies, repeats, |record| record.serialize_into(&mut buffer)),
         "empty" => by_library(bodies, repeats, |own| own.tail.len()),
         _ => return None,
     })
@@ -92,24 +104,27 @@ pub fn length(side: &str, bodies: &[Body], repeats: usize) -> Option<usize> {
         "library" => by_library(bodies, repeats, |own| unsafe {
             s2xv2_serialized_len(own.record, own.tail.as_ptr(), own.tail.len())
         }),
+        "safe" => by_safe(bodies, repeats, |record| record.serialized_len()),
         "empty" => by_library(bodies, repeats, |own| own.tail.len()),
         _ => return None,
     })
 }
 
-/// That both sides accept the same bodies, measure the same lengths and write the same bytes.
+/// That all sides accept the same bodies, measure the same lengths and write the same bytes.
 pub fn agree(bodies: &[Body]) -> bool {
     bodies.iter().all(|body| {
         let lent = body.lent();
         let parsed = unsafe { s2xv2_parse(lent.as_ptr(), lent.len()) };
-        let accepted = (parsed.answer.number == 0) == Record::parse(lent).is_ok();
-        let (record, own) = (theirs(&body.bytes), own(&body.bytes));
+        let accepted = [parsed.answer.number == 0, Safe::parse(lent).is_ok()] == [Record::parse(lent).is_ok(); 2];
+        let (record, own, safe) = (theirs(&body.bytes), own(&body.bytes), safe(&body.bytes));
         let measured = unsafe { s2xv2_serialized_len(own.record, own.tail.as_ptr(), own.tail.len()) };
-        let (mut a, mut b) = ([0; ROOM], [0; ROOM]);
+        let (mut a, mut b, mut c) = ([0; ROOM], [0; ROOM], [0; ROOM]);
         let length = record.serialize_into(&mut a).expect("a record that was read");
         let answer = written(&own, &mut b);
         let told = [answer.number, answer.first, measured.number, measured.first];
-        accepted && record.reserved_tail == own.tail && told == [0, length, 0, record.serialized_len()] && a == b
+        let crossed = [safe.serialize_into(&mut c), safe.serialized_len()] == [Ok(length); 2];
+        let tails = [own.tail, safe.reserved_tail] == [record.reserved_tail; 2];
+        accepted && tails && crossed && told == [0, length, 0, record.serialized_len()] && a == b && a == c
     })
 }
 

@@ -1,6 +1,6 @@
 //! Beginning a job and making all of its stores. The slots are empty at first and are used again as the job before left them.
 use crate::boundary::{s2xv2_begin, s2xv2_step, s2xv2_step_in_place, Begun, Job, Stepped};
-use crate::inputs::{bodies, Set};
+use crate::inputs::{self, Set};
 use crate::rows::{drive, own, Own};
 use core::hint::black_box;
 
@@ -14,13 +14,21 @@ fn empty_slot(size: usize) -> Vec<u8> {
     slot
 }
 
-/// The bodies of a slot of a size: the smallest holds no more than the core.
-fn fitting(size: usize) -> Set {
-    if size == 21 {
-        Set::Core
-    } else {
-        Set::Mixed
+/// A slot of a size, and whether every descriptor that is stored there fills it.
+#[derive(Clone, Copy)]
+pub struct Kind {
+    pub size: usize,
+    pub filled: bool,
+}
+
+/// The bodies of a slot: the smallest holds no more than the core. Three bytes stand before a body, and a longer tail fills the slot.
+fn bodies(kind: Kind) -> Vec<Vec<u8>> {
+    let set = if kind.size == 21 { Set::Core } else { Set::Mixed };
+    let mut bodies: Vec<Vec<u8>> = inputs::bodies(set).into_iter().map(|body| body.bytes).collect();
+    if kind.filled {
+        bodies.iter_mut().for_each(|body| body.resize(kind.size - 3, 0xA5));
     }
+    bodies
 }
 
 #[inline(always)]
@@ -28,9 +36,9 @@ fn begun(slot: &[u8], own: &Own) -> Begun {
     unsafe { s2xv2_begin(slot.as_ptr(), slot.len(), own.record, own.tail.as_ptr(), own.tail.len()) }
 }
 
-pub fn begin(side: &str, size: usize, repeats: usize) -> Option<usize> {
-    let (bodies, slot) = (bodies(fitting(size)), empty_slot(size));
-    let records: Vec<Own> = bodies.iter().map(|body| own(&body.bytes)).collect();
+pub fn begin(side: &str, kind: Kind, repeats: usize) -> Option<usize> {
+    let (bodies, slot) = (bodies(kind), empty_slot(kind.size));
+    let records: Vec<Own> = bodies.iter().map(|body| own(body)).collect();
     let records: Vec<&Own> = records.iter().collect();
     Some(match side {
         "library" => drive(&records, repeats, |own| begun(&slot, own)),
@@ -39,13 +47,14 @@ pub fn begin(side: &str, size: usize, repeats: usize) -> Option<usize> {
     })
 }
 
-fn jobs(size: usize) -> Vec<Job> {
-    let (bodies, slot) = (bodies(fitting(size)), empty_slot(size));
-    let begun = bodies.iter().map(|body| begun(&slot, &own(&body.bytes)));
+fn jobs(kind: Kind) -> Vec<Job> {
+    let (bodies, slot) = (bodies(kind), empty_slot(kind.size));
+    let begun = bodies.iter().map(|body| begun(&slot, &own(body)));
     begun
         .take(JOBS)
         .map(|begun| {
-            assert_eq!([begun.answer.number, begun.answer.first], [0, size + 2]);
+            assert_eq!([begun.answer.number, begun.answer.first], [0, kind.size + 2]);
+            assert!(!kind.filled || begun.job.descriptor_size == kind.size);
             begun.job
         })
         .collect()
@@ -87,21 +96,22 @@ fn turns(size: usize, allowance: usize) -> usize {
 }
 
 /// Whole jobs, from the first store to the last.
-pub fn job(side: &str, size: usize, allowance: usize, repeats: usize) -> Option<usize> {
-    let (mut jobs, mut slot) = (jobs(size), empty_slot(size));
+pub fn job(side: &str, kind: Kind, allowance: usize, repeats: usize) -> Option<usize> {
+    let (mut jobs, mut slot) = (jobs(kind), empty_slot(kind.size));
     let jobs: Vec<*mut Job> = jobs.iter_mut().map(core::ptr::from_mut).collect();
     Some(match side {
         "value" => drive(&jobs, repeats, |job| by_value(unsafe { &*job }, &mut slot, allowance)),
         "place" => drive(&jobs, repeats, |job| in_place(job, &mut slot, allowance)),
-        "empty" => drive(&jobs, repeats, |_| turns(size, allowance)),
+        "empty" => drive(&jobs, repeats, |_| turns(kind.size, allowance)),
         _ => return None,
     })
 }
 
 /// That both ways to step leave the same slot, which holds the descriptor.
 pub fn agree() -> bool {
-    [21, 64, 257].into_iter().all(|size| {
-        jobs(size).iter_mut().all(|job| {
+    let kinds = [(21, false), (64, false), (64, true), (257, false), (257, true)];
+    kinds.into_iter().all(|(size, filled)| {
+        jobs(Kind { size, filled }).iter_mut().all(|job| {
             let (mut a, mut b) = (empty_slot(size), empty_slot(size));
             by_value(job, &mut a, 8);
             in_place(job, &mut b, 1);

@@ -17,6 +17,7 @@ pub enum RollOff {
 impl RollOff {
     /// The roll-off of a code. Every number has one.
     #[must_use]
+    #[inline]
     pub const fn from_u8(v: u8) -> Self {
         match v {
             0 => Self::Alpha035,
@@ -28,6 +29,7 @@ impl RollOff {
 
     /// The code.
     #[must_use]
+    #[inline]
     pub const fn to_u8(self) -> u8 {
         match self {
             Self::Alpha035 => 0,
@@ -55,6 +57,7 @@ pub enum Polarization {
 impl Polarization {
     /// The polarization of the low two bits.
     #[must_use]
+    #[inline]
     pub const fn from_u8(v: u8) -> Self {
         match v & 3 {
             0 => Self::LinearHorizontal,
@@ -66,6 +69,7 @@ impl Polarization {
 
     /// The code.
     #[must_use]
+    #[inline]
     pub const fn to_u8(self) -> u8 {
         match self {
             Self::LinearHorizontal => 0,

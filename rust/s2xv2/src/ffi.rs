@@ -130,42 +130,50 @@ mod archive {
     }
 }
 
+#[inline]
 pub(crate) fn parse(body: &[u8]) -> Parsed {
     // SAFETY: the pointer and the length are those of one slice, which is only read, and is not kept.
     unsafe { archive::s2xv2_parse(body.as_ptr(), body.len()) }
 }
 
+#[inline]
 pub(crate) fn serialized_len(record: Record, tail: &[u8]) -> Answer {
     // SAFETY: the pointer and the length are those of one slice, which is only read, and is not kept.
     unsafe { archive::s2xv2_serialized_len(record, tail.as_ptr(), tail.len()) }
 }
 
+#[inline]
 pub(crate) fn serialize_into(record: Record, tail: &[u8], buffer: &mut [u8]) -> Answer {
     // SAFETY: each pointer and length are those of one slice; the tail is only read; the buffer is lent for this call alone, so that the
     // two do not overlap, and is written within its length; neither is kept.
     unsafe { archive::s2xv2_serialize_into(record, tail.as_ptr(), tail.len(), buffer.as_mut_ptr(), buffer.len()) }
 }
 
+#[inline]
 pub(crate) fn slot_read(slot: &[u8]) -> Parsed {
     // SAFETY: the pointer and the length are those of one slice, which is only read, and is not kept.
     unsafe { archive::s2xv2_slot_read(slot.as_ptr(), slot.len()) }
 }
 
+#[inline]
 pub(crate) fn slot_make_empty(slot: &mut [u8]) -> Answer {
     // SAFETY: the pointer and the length are those of one slice, lent for this call alone, written within its length, and not kept.
     unsafe { archive::s2xv2_slot_make_empty(slot.as_mut_ptr(), slot.len()) }
 }
 
+#[inline]
 pub(crate) fn begin(slot: &[u8], record: Record, tail: &[u8]) -> Begun {
     // SAFETY: each pointer and length are those of one slice; both are only read, and neither is kept.
     unsafe { archive::s2xv2_begin(slot.as_ptr(), slot.len(), record, tail.as_ptr(), tail.len()) }
 }
 
+#[inline]
 pub(crate) fn step(job: Job, slot: &mut [u8], allowance: usize) -> Stepped {
     // SAFETY: the pointer and the length are those of one slice, lent for this call alone, written within its length, and not kept.
     unsafe { archive::s2xv2_step(job, slot.as_mut_ptr(), slot.len(), allowance) }
 }
 
+#[inline]
 pub(crate) fn step_in_place(job: &mut Job, slot: &mut [u8], allowance: usize) -> Advanced {
     // SAFETY: the job's pointer is a live `&mut`; the slot's pointer and length are those of one slice; both are lent for this call alone,
     // so that they do not overlap, are written within their sizes, and are not kept.

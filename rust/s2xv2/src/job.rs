@@ -1,5 +1,5 @@
 //! The job that replaces the descriptor in a slot.
-use crate::crossing::{accepted, flag, record_in};
+use crate::crossing::{accepted, flag, id_count, record_in};
 use crate::{ffi, Refusal, S2Xv2SatelliteDeliverySystem, Slot};
 use core::fmt;
 
@@ -67,8 +67,8 @@ impl Job {
     /// [`Refusal::Foreign`] for more than 255 ids, then [`Refusal::Slot`], [`Refusal::Inconsistent`], [`Refusal::Long`],
     /// [`Refusal::NoFit`], [`Refusal::Field`].
     pub fn begin(slot: &Slot<'_>, record: &S2Xv2SatelliteDeliverySystem<'_>) -> Result<Self, Refusal> {
-        let begun = ffi::begin(slot.bytes(), record_in(record)?, record.reserved_tail);
-        accepted(begun.answer)?;
+        let begun = ffi::begin(slot.bytes(), record_in(record, id_count(record)?), record.reserved_tail);
+        accepted(&begun.answer)?;
         Ok(Self { inner: begun.job })
     }
 
@@ -162,7 +162,7 @@ fn progress(told: ffi::Advanced) -> Result<Progress, Refusal> {
     match told.number {
         0 => Ok(Progress {
             stores: told.stores,
-            done: flag(told.done)?,
+            done: flag(told.done),
         }),
         8 => Err(Refusal::OtherSize),
         _ => Err(Refusal::Foreign),
@@ -226,9 +226,15 @@ mod tests {
 
     #[test]
     fn tellings_that_no_contract_allows() {
-        for (number, done) in [(0, 2), (1, 0), (100, 0), (255, 1)] {
+        for (number, done) in [(1, 0), (100, 0), (255, 1)] {
             let told = ffi::Advanced { stores: 1, number, done };
             assert_eq!(progress(told), Err(Refusal::Foreign));
         }
+        let told = ffi::Advanced {
+            stores: 1,
+            number: 0,
+            done: 2,
+        };
+        assert_eq!(progress(told), Ok(Progress { stores: 1, done: true }));
     }
 }

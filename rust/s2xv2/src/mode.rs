@@ -23,6 +23,7 @@ pub enum S2Xv2Mode {
 impl S2Xv2Mode {
     /// The mode of a code. Every number has one.
     #[must_use]
+    #[inline]
     pub const fn from_u8(v: u8) -> Self {
         match v {
             0 => Self::Reserved0,
@@ -37,6 +38,7 @@ impl S2Xv2Mode {
 
     /// The code.
     #[must_use]
+    #[inline]
     pub const fn to_u8(self) -> u8 {
         match self {
             Self::Reserved0 => 0,

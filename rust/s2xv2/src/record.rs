@@ -1,5 +1,5 @@
 //! The record of a body.
-use crate::crossing::{accepted, record_in, record_out};
+use crate::crossing::{accepted, id_count, record_in, record_out};
 use crate::{ffi, Polarization, Refusal, RollOff, S2Xv2Mode, S2Xv2Superframe};
 use alloc::vec::Vec;
 
@@ -115,7 +115,7 @@ impl<'a> S2Xv2SatelliteDeliverySystem<'a> {
     /// [`Refusal::Long`] above 4,096 bytes, and [`Refusal::Short`] for a body that ends inside a part.
     pub fn parse(body: &'a [u8]) -> Result<Self, Refusal> {
         let parsed = ffi::parse(body);
-        let (place, _) = accepted(parsed.answer)?;
+        let (place, _) = accepted(&parsed.answer)?;
         let tail = body.get(place..).ok_or(Refusal::Foreign)?;
         record_out(&parsed.body, tail)
     }
@@ -136,7 +136,7 @@ impl<'a> S2Xv2SatelliteDeliverySystem<'a> {
     /// # Errors
     /// [`Refusal::Inconsistent`], [`Refusal::Long`] above 4,096 bytes, and [`Refusal::Foreign`] for more than 255 ids.
     pub fn serialized_len(&self) -> Result<usize, Refusal> {
-        let (length, _) = accepted(ffi::serialized_len(record_in(self)?, self.reserved_tail))?;
+        let (length, _) = accepted(&ffi::serialized_len(record_in(self, id_count(self)?), self.reserved_tail))?;
         Ok(length)
     }
 
@@ -162,7 +162,7 @@ impl<'a> S2Xv2SatelliteDeliverySystem<'a> {
     /// # Errors
     /// Those of [`serialized_len`](Self::serialized_len), then [`Refusal::Room`], then [`Refusal::Field`].
     pub fn serialize_into(&self, buffer: &mut [u8]) -> Result<usize, Refusal> {
-        let (length, _) = accepted(ffi::serialize_into(record_in(self)?, self.reserved_tail, buffer))?;
+        let (length, _) = accepted(&ffi::serialize_into(record_in(self, id_count(self)?), self.reserved_tail, buffer))?;
         Ok(length)
     }
 }

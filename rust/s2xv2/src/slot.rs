@@ -20,7 +20,7 @@ use crate::{ffi, Refusal, S2Xv2SatelliteDeliverySystem};
 /// [`Refusal::Slot`] for a wrong size or form, and [`Refusal::Short`] for a body that ends inside a part.
 pub fn read_slot(bytes: &[u8]) -> Result<Option<S2Xv2SatelliteDeliverySystem<'_>>, Refusal> {
     let read = ffi::slot_read(bytes);
-    let (place, length) = accepted(read.answer)?;
+    let (place, length) = accepted(&read.answer)?;
     if place == 0 {
         return Ok(None);
     }
@@ -85,7 +85,7 @@ impl<'a> Slot<'a> {
     /// # Errors
     /// [`Refusal::Slot`] for a size below 21 or above 257; then nothing is stored.
     pub fn make_empty(&mut self) -> Result<(), Refusal> {
-        accepted(ffi::slot_make_empty(self.bytes)).map(|_| ())
+        accepted(&ffi::slot_make_empty(self.bytes)).map(|_| ())
     }
 
     /// The slot's bytes.
