@@ -155,8 +155,14 @@ fn record_flags(c: FlatRecord) -> u8
 {
     let first = joined(c.mode_is_reserved, c.multiple_input_stream_flag);
     let second = joined(c.ncr_reference, c.ncr_version);
-    let third = joined(c.has_scrambling_sequence_selector, c.scrambling_sequence_selector);
-    let fourth = joined(c.has_input_stream_identifier, c.has_scrambling_sequence_index);
+    let third = joined(
+        c.has_scrambling_sequence_selector,
+        c.scrambling_sequence_selector,
+    );
+    let fourth = joined(
+        c.has_input_stream_identifier,
+        c.has_scrambling_sequence_index,
+    );
     let fifth = joined(c.has_timeslice_number, c.has_superframe);
     joined(joined(joined(first, second), joined(third, fourth)), fifth)
 }
