@@ -149,20 +149,21 @@ pub(crate) fn is_checked(c: FlatRecord) -> bool
     ensures { λ r. ⌜ (r ≡ true → Checked (recordIn c)) ⌝ }
 {
     let block = c.superframe;
-    if agrees(c) {} else {
+    if !agrees(c) {
         return false;
     }
-    if core_fits(c) {} else {
+    if !core_fits(c) {
         return false;
     }
-    if superframe_fits(c.has_superframe, block) {} else {
+    if !superframe_fits(c.has_superframe, block) {
         return false;
     }
-    if scrambling_fits(
+    let carried = scrambling_fits(
         c.has_scrambling_sequence_index,
         c.scrambling_sequence_index,
         c.reserved_zero_future_use_6,
-    ) {} else {
+    );
+    if !carried {
         return false;
     }
     bonds_fit(

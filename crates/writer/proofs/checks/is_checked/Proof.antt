@@ -1,5 +1,6 @@
 -- `writer::checks::is_checked` meets its contract: each test says what it found, and a record of which all of that holds passes both lists.
 -- Assumes nothing.
+use borrow.Author.Tests.{not-false}
 use Rattle.writer.proofs.Checked.{checked}
 use Rattle.writer.proofs.Flags.{never}
 use borrow.Author.Needs.{needs}
@@ -34,7 +35,10 @@ bonds-fit-requires : tie.Need-bonds-fit-requires
 bonds-fit-requires c κs = search needs
 
 returns-5 : tie.Need-returns-5
-returns-5 c = λ e. checked (c .before .before .before .before .before .before .before .before .before .before .args .c) (c .before .before .before .before .before .before .before .before .before .before .pre) (c .before .before .before .before .before .before .before .before .agrees .ensures (c .before .before .before .before .before .before .before .if1 .taken)) (c .before .before .before .before .before .before .core-fits .ensures (c .before .before .before .before .before .if2 .taken)) (c .before .before .before .before .superframe-fits .ensures (c .before .before .before .if3 .taken)) (c .before .before .scrambling-fits .ensures (c .before .if4 .taken)) (c .bonds-fit .ensures e)
+returns-5 c =
+    λ e.
+      checked (c .before .before .before .before .before .before .before .before .before .before .args .c) (c .before .before .before .before .before .before .before .before .before .before .pre) (c .before .before .before .before .before .before .before .before .agrees .ensures (not-false _ (c .before .before .before .before .before .before .before .if1 .left))) (c .before .before .before .before .before .before .core-fits .ensures (not-false _ (c .before .before .before .before .before .if2 .left))) (c .before .before .before .before .superframe-fits .ensures (not-false _ (c .before .before .before .if3 .left)))
+      (c .before .before .scrambling-fits .ensures (not-false _ (c .before .if4 .left))) (c .bonds-fit .ensures e)
 
 pub is-checked-spec : {M : Type 1} → statement M
 is-checked-spec =
