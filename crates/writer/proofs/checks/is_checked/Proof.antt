@@ -37,8 +37,8 @@ bonds-fit-requires c κs = search needs
 returns-5 : tie.Need-returns-5
 returns-5 c =
     λ e.
-      checked (c .before .before .before .before .before .before .before .before .before .before .args .c) (c .before .before .before .before .before .before .before .before .before .before .pre) (c .before .before .before .before .before .before .before .before .agrees .ensures (not-false _ (c .before .before .before .before .before .before .before .if1 .left))) (c .before .before .before .before .before .before .core-fits .ensures (not-false _ (c .before .before .before .before .before .if2 .left))) (c .before .before .before .before .superframe-fits .ensures (not-false _ (c .before .before .before .if3 .left)))
-      (c .before .before .scrambling-fits .ensures (not-false _ (c .before .if4 .left))) (c .bonds-fit .ensures e)
+    checked (c .before .before .before .before .before .before .before .before .before .before .args .c) (c .before .before .before .before .before .before .before .before .before .before .pre) (c .before .before .before .before .before .before .before .before .agrees .ensures (not-false _ (c .before .before .before .before .before .before .before .if1 .left))) (c .before .before .before .before .before .before .core-fits .ensures (not-false _ (c .before .before .before .before .before .if2 .left))) (c .before .before .before .before .superframe-fits .ensures (not-false _ (c .before .before .before .if3 .left)))
+    (c .before .before .scrambling-fits .ensures (not-false _ (c .before .if4 .left))) (c .bonds-fit .ensures e)
 
 pub is-checked-spec : {M : Type 1} → statement M
 is-checked-spec =
