@@ -8,11 +8,6 @@ ghost use Rattle.s2xv2.specs.Write.{writeTold, written};
 ghost use Rattle.capi.specs.Part.{tailPart, cut};
 ghost use Rattle.flat.specs.Output.{answerOut, recordOut};
 ghost use Rattle.flat.specs.Input.{recordIn, valid, foreign};
-use flat::input::is_valid;
-use flat::input::record_in;
-use flat::output::answer_out;
-use flat::output::foreign;
-use flat::output::record_out;
 use flat::types::FlatAnswer;
 use flat::types::FlatParsed;
 use flat::types::FlatPart;
@@ -50,11 +45,7 @@ pub extern "C" fn s2xv2_reserved_tail(sel: &[u8]) -> FlatPart
 pub extern "C" fn s2xv2_serialized_len(r: FlatRecord, reserved_tail: &[u8]) -> FlatAnswer
     ensures { λ a. ⌜ a ≡ when (valid r) (answerOut (lengthTold (recordIn r) (now («reserved_tail» .entry)))) foreign ⌝ }
 {
-    if is_valid(r) {
-        answer_out(writer::serialized_len(record_in(r), reserved_tail))
-    } else {
-        foreign()
-    }
+    writer::serialized_len_flat(r, reserved_tail)
 }
 
 // `serialize_into` of the library. Refuses with 100 what no record could hold, and then stores nothing.
@@ -67,10 +58,5 @@ pub extern "C" fn s2xv2_serialize_into(
     ensures answer { λ a. ⌜ a ≡ when (valid r) (answerOut (writeTold (recordIn r) (now («reserved_tail» .entry)) (length (now (buf .entry))))) foreign ⌝ }
     ensures buffer { λ _. ⌜ now (buf .exit) ≡ when (valid r) (written (recordIn r) (now («reserved_tail» .entry)) (now (buf .entry))) (now (buf .entry)) ⌝ }
 {
-    if is_valid(r) {
-        let answer = writer::serialize_into(record_in(r), reserved_tail, buf);
-        answer_out(answer)
-    } else {
-        foreign()
-    }
+    writer::serialize_flat(r, reserved_tail, buf)
 }

@@ -1,6 +1,8 @@
 -- What comes from C: `recordIn` is the record that is meant, `blockIn` its block, `modeIn` its mode. `valid` says that there is one: all `flags`, those of `recordFlags` and of `blockFlags`, are 0 or 1, and
--- a mode without `Reserved` is one that has a name (`named`). `foreign` is what is answered where there is none. Assumes nothing.
-use Prim.Native.Nat.{ℕ}
+-- a mode without `Reserved` is one that has a name (`named`). `foreign` is what is answered where there is none. `Joined` says of a number that it is below a power of two only if two
+-- others are. Assumes nothing.
+use Prim.Native.Nat.{ℕ, _^_}
+use mathlib.Core.Path.{_≡_}
 use mathlib.Core.List.{List, [], _∷_, _++_}
 use mathlib.Core.Bool.{Bool, true}
 use lib.Dec.{ltb}
@@ -98,3 +100,7 @@ valid c = and (flags (recordFlags c)) (and (flags (blockFlags (c .superframe))) 
 -- a number above all that the library has
 abbrev pub foreign : FlatAnswer
 foreign = record { number = 100; first = 0; second = 0; third = 0 }
+
+-- a number that is below a power of two only if a and b are
+abbrev pub Joined : ℕ → ℕ → ℕ → Type 0
+Joined a b r = (k : ℕ) → ltb r (2 ^ k) ≡ and (ltb a (2 ^ k)) (ltb b (2 ^ k))

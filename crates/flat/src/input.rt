@@ -1,8 +1,9 @@
 // From what crosses to the library's types.
 ghost use mathlib.Core.Path.{_≡_};
+ghost use lib.Dec.{ltb};
 ghost use Rattle.wire.specs.Flags.{isOne, and};
 ghost use Rattle.s2xv2.specs.Options.{someBoolIf, some8If, some32If, someSuperframeIf};
-ghost use Rattle.flat.specs.Input.{modeIn, blockIn, recordIn, blockFlags, recordFlags, flags, named, valid};
+ghost use Rattle.flat.specs.Input.{modeIn, blockIn, recordIn, blockFlags, recordFlags, flags, named, valid, Joined};
 use crate::types::FlatRecord;
 use crate::types::FlatSuperframe;
 use s2xv2::mode::S2Xv2Mode;
@@ -13,7 +14,7 @@ use s2xv2::record::S2Xv2SatelliteDeliverySystem;
 use s2xv2::superframe::OptionSuperframe;
 use s2xv2::superframe::S2Xv2Superframe;
 
-fn is_one(v: u8) -> bool
+pub fn is_one(v: u8) -> bool
     ensures { λ r. ⌜ r ≡ isOne v ⌝ }
 {
     v == 1
@@ -131,50 +132,39 @@ pub fn record_in(c: FlatRecord) -> S2Xv2SatelliteDeliverySystem
     }
 }
 
-// Each flag of the block is 0 or 1.
-fn block_flags(f: FlatSuperframe) -> bool
-    ensures { λ r. ⌜ r ≡ flags (blockFlags f) ⌝ }
+// The bits of both bytes: below a power of two only if both are.
+pub fn joined(a: u8, b: u8) -> u8
+    ensures { λ r. ⌜ Joined a b r ⌝ }
 {
-    if 2 <= f.sffi_selector {
-        false
-    } else if 2 <= f.beam_hopping_time_plan_selector {
-        false
-    } else if 2 <= f.has_sffi {
-        false
-    } else if 2 <= f.has_beamhopping_time_plan_id {
-        false
-    } else {
-        true
-    }
+    a | b
 }
 
-// Each flag of the record is 0 or 1.
-fn record_flags(c: FlatRecord) -> bool
-    ensures { λ r. ⌜ r ≡ flags (recordFlags c) ⌝ }
+// The flags of the block, joined: below 2 only if each is 0 or 1.
+fn block_flags(f: FlatSuperframe) -> u8
+    ensures { λ r. ⌜ ltb r 2 ≡ flags (blockFlags f) ⌝ }
 {
-    if 2 <= c.mode_is_reserved {
-        false
-    } else if 2 <= c.multiple_input_stream_flag {
-        false
-    } else if 2 <= c.ncr_reference {
-        false
-    } else if 2 <= c.ncr_version {
-        false
-    } else if 2 <= c.has_scrambling_sequence_selector {
-        false
-    } else if 2 <= c.scrambling_sequence_selector {
-        false
-    } else if 2 <= c.has_input_stream_identifier {
-        false
-    } else if 2 <= c.has_scrambling_sequence_index {
-        false
-    } else if 2 <= c.has_timeslice_number {
-        false
-    } else if 2 <= c.has_superframe {
-        false
-    } else {
-        true
-    }
+    joined(
+        joined(f.sffi_selector, f.beam_hopping_time_plan_selector),
+        joined(f.has_sffi, f.has_beamhopping_time_plan_id),
+    )
+}
+
+// The flags of the record, joined: below 2 only if each is 0 or 1.
+fn record_flags(c: FlatRecord) -> u8
+    ensures { λ r. ⌜ ltb r 2 ≡ flags (recordFlags c) ⌝ }
+{
+    let first = joined(c.mode_is_reserved, c.multiple_input_stream_flag);
+    let second = joined(c.ncr_reference, c.ncr_version);
+    let third = joined(
+        c.has_scrambling_sequence_selector,
+        c.scrambling_sequence_selector,
+    );
+    let fourth = joined(
+        c.has_input_stream_identifier,
+        c.has_scrambling_sequence_index,
+    );
+    let fifth = joined(c.has_timeslice_number, c.has_superframe);
+    joined(joined(joined(first, second), joined(third, fourth)), fifth)
 }
 
 // A mode that is not `Reserved` has a code below 6.
@@ -189,12 +179,9 @@ pub fn is_valid(c: FlatRecord) -> bool
     ensures { λ r. ⌜ r ≡ valid c ⌝ }
 {
     let block = c.superframe;
-    if record_flags(c) {
-        if block_flags(block) {
-            is_named(c.mode_is_reserved, c.s2xv2_mode)
-        } else {
-            false
-        }
+    let flags = joined(record_flags(c), block_flags(block));
+    if flags < 2 {
+        is_named(c.mode_is_reserved, c.s2xv2_mode)
     } else {
         false
     }

@@ -1,19 +1,30 @@
 -- Laws of the bonds that list B passes, and of the parts one after the other.
 -- Assumes nothing.
-use mathlib.Core.Path.{_≡_, ap, _∙_}
-use mathlib.Core.List.{List, [], _++_}
-use mathlib.Core.Bool.{true}
-use Prim.Native.Nat.{ℕ, zero, suc, _+_, _≤_, _<_}
+use mathlib.Core.Path.{_≡_, refl, sym, ap, _∙_}
+use mathlib.Core.List.{List, [], _∷_, _++_}
+use mathlib.Core.Bool.{Bool, true, false}
+use Prim.Native.Nat.{ℕ, zero, suc, _+_, _%_, _≤_, _<_}
 use native.Mathlib.Nat.{add-zero}
 use native.Mathlib.Omega.{arith}
-use lib.ListN.{length}
+use lib.ListN.{length, getD}
 use Rattle.wire.specs.Widths.{pack}
 use Rattle.wire.specs.Parts.{Part, bytesOf, sizes}
 use Rattle.wire.proofs.Parts.{Whole, bytesOf-append, bytesOf-tail, sizes-append, length-bytesOf}
 use Rattle.s2xv2.specs.Table144b as T
-use Rattle.s2xv2.specs.Encode.{lessOne, bondParts, coreValues, streamOf, scramblingOf, timesliceOf, bondOf, superframeOf, partsOf, encode}
+use Rattle.s2xv2.specs.Options.{orZero32, some32If}
+use Rattle.s2xv2.specs.ListB.{wide, scramblingB, superframeB}
+use Rattle.s2xv2.specs.Encode.{lessOne, bondParts, scramblingParts, planParts, coreValues, streamOf, scramblingOf, timesliceOf, bondOf, superframeOf, partsOf, encode}
 use Rattle.s2xv2.specs.declared.record.S2Xv2SatelliteDeliverySystem.{S2Xv2SatelliteDeliverySystem}
+use Rattle.s2xv2.specs.declared.option.OptionU32.the-variants as O32
+use Rattle.s2xv2.specs.declared.superframe.OptionSuperframe.the-variants as OS
+use Rattle.s2xv2.proofs.Lists.{Clear, narrow}
 use Rattle.s2xv2.proofs.Whole.{bond-size}
+use Rattle.wire.specs.Flags.{bit, isOne, and, not}
+use Rattle.flat.specs.Input.{blockIn, recordIn}
+use Rattle.flat.proofs.Back.{is-selected, is-32}
+use Rattle.flat.specs.declared.types.FlatSuperframe.{FlatSuperframe}
+use Rattle.flat.specs.declared.types.FlatRecord.{FlatRecord}
+use Rattle.checks.proofs.Flags.{never, is-bit, there-scrambling, there-plan}
 
 -- ---- a count that list B passes is 1 or 2
 
@@ -64,3 +75,41 @@ parts-split r =
       sizes-append (timesliceOf r) (bondOf r ++ superframeOf r),
       sizes-append (bondOf r) (superframeOf r),
     )
+
+-- ---- parts of numbers that cross
+
+-- the id at the last place is the second where there are two
+pub bonds-same : (t : Bool) (r n l : ℕ) (ids : List ℕ) → l ≡ lessOne n % 2 → and t (wide 1 (lessOne n)) ≡ false
+    → bondParts t r n (getD ids 0 0 ∷ getD ids l 0 ∷ []) ≡ bondParts t r n ids
+unfolding bondParts
+bonds-same false r n l ids d e = refl
+bonds-same true r zero l ids d e = absurd (omega (arith, narrow 1 255 e))
+bonds-same true r (suc zero) l ids d e = refl
+bonds-same true r (suc (suc zero)) l ids d e = rw d refl
+bonds-same true r (suc (suc (suc n))) l ids d e = absurd (omega (arith, narrow 1 (suc (suc n)) e))
+
+-- the index is there where both flags ask for it
+pub scrambling-same : (c : FlatRecord) (m : ℕ) → m ≡ bit (and (isOne (c .«has_scrambling_sequence_selector»)) (isOne (c .«scrambling_sequence_selector»))) → Clear (scramblingB (recordIn c))
+    → scramblingParts (isOne m) (c .«reserved_zero_future_use_6») (O32.Some (c .«scrambling_sequence_index»)) ≡ scramblingOf (recordIn c)
+scrambling-same c m e b =
+    let s = is-selected (isOne (c .«has_scrambling_sequence_selector»)) (isOne (c .«scrambling_sequence_selector»)) in
+    let i = is-32 (isOne (c .«has_scrambling_sequence_index»)) (c .«scrambling_sequence_index») in
+    rw (e, is-bit, s) (sym (there-scrambling (and (isOne (c .«has_scrambling_sequence_selector»)) (isOne (c .«scrambling_sequence_selector»))) (isOne (c .«has_scrambling_sequence_index»)) (c .«reserved_zero_future_use_6») (c .«scrambling_sequence_index») (rw (s, i) at (b .0))))
+
+-- and it is within its width
+pub scrambling-narrow : (c : FlatRecord) (m : ℕ) → m ≡ bit (and (isOne (c .«has_scrambling_sequence_selector»)) (isOne (c .«scrambling_sequence_selector»))) → Clear (scramblingB (recordIn c))
+    → (and (isOne m) (wide 18 (c .«scrambling_sequence_index»)) ≡ false) × (and (isOne m) (wide 6 (c .«reserved_zero_future_use_6»)) ≡ false)
+scrambling-narrow c m e b =
+    let s = is-selected (isOne (c .«has_scrambling_sequence_selector»)) (isOne (c .«scrambling_sequence_selector»)) in
+    let i = is-32 (isOne (c .«has_scrambling_sequence_index»)) (c .«scrambling_sequence_index») in
+    let a = and (isOne (c .«has_scrambling_sequence_selector»)) (isOne (c .«scrambling_sequence_selector»)) in
+    rw (e, is-bit) (there-narrow a (isOne (c .«has_scrambling_sequence_index»)) (c .«scrambling_sequence_index») (rw (s, i) at (b .0)) (rw s at (b .1 .0)), rw s at (b .1 .1 .0))
+  where
+    there-narrow : (a t : Bool) (v : ℕ) → and a (not t) ≡ false → and a (wide 18 (orZero32 (some32If t v))) ≡ false → and a (wide 18 v) ≡ false
+    there-narrow true true v h k = k
+    there-narrow true false v h k = never (sym h)
+    there-narrow false t v h k = refl
+
+pub plan-same : (f : FlatSuperframe) → Clear (superframeB (OS.Some (blockIn f)))
+    → planParts (isOne (f .«beam_hopping_time_plan_selector»)) (some32If (isOne (f .«has_beamhopping_time_plan_id»)) (f .«beamhopping_time_plan_id»)) ≡ planParts (isOne (f .«beam_hopping_time_plan_selector»)) (O32.Some (f .«beamhopping_time_plan_id»))
+plan-same f b = there-plan (isOne (f .«beam_hopping_time_plan_selector»)) (isOne (f .«has_beamhopping_time_plan_id»)) (f .«beamhopping_time_plan_id») (rw (is-32 (isOne (f .«has_beamhopping_time_plan_id»)) (f .«beamhopping_time_plan_id»)) at (b .1 .1 .1 .1 .1 .0))

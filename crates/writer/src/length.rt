@@ -1,31 +1,32 @@
 // How many bytes a record takes.
 ghost use mathlib.Core.Path.{_≡_};
-ghost use Prim.Native.Nat.{_+_, _*_, _≤_};
+ghost use Prim.Native.Nat.{_+_, _*_, _≤_, _<_};
 ghost use lib.Dec.{eqb};
+ghost use Rattle.wire.specs.Flags.{isOne};
 ghost use Rattle.wire.specs.Parts.{sizes};
-ghost use Rattle.s2xv2.specs.Options.{isSome8, selected};
+ghost use Rattle.s2xv2.specs.Options.{someSuperframeIf};
 ghost use Rattle.s2xv2.specs.Read.{only};
 ghost use Rattle.s2xv2.specs.Encode.{superframeParts, partsOf};
-use s2xv2::option::OptionBool;
-use s2xv2::option::OptionU8;
-use s2xv2::record::S2Xv2SatelliteDeliverySystem;
-use s2xv2::superframe::OptionSuperframe;
+ghost use Rattle.flat.specs.Input.{blockIn, recordIn};
+ghost use Rattle.checks.specs.Flagged.{FlaggedBlock, Flagged};
+use checks::flag::both;
+use flat::types::FlatRecord;
+use flat::types::FlatSuperframe;
 
 // A part of one byte: the input stream identifier, and the timeslice number.
-fn byte_len(v: OptionU8) -> usize
-    ensures { λ n. ⌜ (n ≡ only (isSome8 v) 1) × (n ≤ 1) ⌝ }
+fn byte_len(there: u8) -> usize
+    requires { ⌜ there < 2 ⌝ }
+    ensures { λ n. ⌜ (n ≡ only (isOne there) 1) × (n ≤ 1) ⌝ }
 {
-    match v {
-        OptionU8::Some(_) => 1,
-        OptionU8::None => 0,
-    }
+    there as usize
 }
 
 // The scrambling sequence index, with what is reserved before it.
-fn scrambling_len(selector: OptionBool) -> usize
-    ensures { λ n. ⌜ (n ≡ only (selected selector) 3) × (n ≤ 3) ⌝ }
+fn scrambling_len(there: u8) -> usize
+    requires { ⌜ there < 2 ⌝ }
+    ensures { λ n. ⌜ (n ≡ only (isOne there) 3) × (n ≤ 3) ⌝ }
 {
-    if selector.is_set() { 3 } else { 0 }
+    3 * (there as usize)
 }
 
 // The bonds, whatever their count.
@@ -39,27 +40,32 @@ fn bond_len(bond: u8, count: u8) -> usize
     }
 }
 
-fn superframe_len(superframe: OptionSuperframe) -> usize
-    ensures { λ n. ⌜ (n ≡ sizes (superframeParts superframe)) × (n ≤ 12) ⌝ }
+// The superframe block: 8, or 12 with a plan id.
+fn superframe_len(there: u8, f: FlatSuperframe) -> usize
+    requires { ⌜ FlaggedBlock f ⌝ }
+    ensures { λ n. ⌜ (n ≡ sizes (superframeParts (someSuperframeIf (isOne there) (blockIn f)))) × (n ≤ 12) ⌝ }
 {
-    match superframe {
-        OptionSuperframe::Some(f) => f.serialized_len(),
-        OptionSuperframe::None => 0,
+    if there == 1 {
+        8 + 4 * (f.beam_hopping_time_plan_selector as usize)
+    } else {
+        0
     }
 }
 
 // All parts, without the tail.
-pub(crate) fn parts_len(r: S2Xv2SatelliteDeliverySystem) -> usize
-    ensures { λ n. ⌜ (n ≡ sizes (partsOf r)) × (n ≤ 1056) ⌝ }
+pub(crate) fn parts_len(c: FlatRecord) -> usize
+    requires { ⌜ Flagged c ⌝ }
+    ensures { λ n. ⌜ (n ≡ sizes (partsOf (recordIn c))) × (n ≤ 1056) ⌝ }
 {
-    let stream = r.input_stream_identifier;
-    let selector = r.scrambling_sequence_selector;
-    let timeslice = r.timeslice_number;
-    let superframe = r.superframe;
+    let superframe = c.superframe;
+    let scrambled = both(
+        c.has_scrambling_sequence_selector,
+        c.scrambling_sequence_selector,
+    );
     18
-        + byte_len(stream)
-        + scrambling_len(selector)
-        + byte_len(timeslice)
-        + bond_len(r.channel_bond, r.num_channel_bonds)
-        + superframe_len(superframe)
+        + byte_len(c.has_input_stream_identifier)
+        + scrambling_len(scrambled)
+        + byte_len(c.has_timeslice_number)
+        + bond_len(c.channel_bond, c.num_channel_bonds)
+        + superframe_len(c.has_superframe, superframe)
 }

@@ -1,64 +1,52 @@
 // The parts of a record as bytes. Each function stores its part from a place on and answers the place behind it; it requires room for the
-// part, and that list B found nothing in it.
+// part, that each flag is 0 or 1, and that list B found nothing in it.
 ghost use mathlib.Core.List.{[], _∷_};
 ghost use mathlib.Core.Bool.{false};
 ghost use mathlib.Core.Path.{_≡_};
 ghost use Prim.Native.Nat.{_+_, _*_, _%_, _≤_, _<_};
 ghost use lib.ListN.{length};
 ghost use lib.Dec.{eqb};
-ghost use Rattle.wire.specs.Flags.{bit, and};
+ghost use Rattle.wire.specs.Flags.{isOne, and};
 ghost use Rattle.wire.specs.Store.{stored};
 ghost use Rattle.wire.specs.Widths.{pack};
 ghost use Rattle.wire.specs.Parts.{bytesOf, sizes};
 ghost use Rattle.s2xv2.specs.Table144b.{core};
-ghost use Rattle.s2xv2.specs.Options.{selected, orZero32};
-ghost use Rattle.s2xv2.specs.Encode.{topBit, coreValues, byteParts, scramblingParts, lessOne, bondParts, planParts, blockParts, superframeParts};
+ghost use Rattle.s2xv2.specs.Options.{some8If, someSuperframeIf};
+ghost use Rattle.s2xv2.specs.Encode.{coreValues, byteParts, scramblingParts, lessOne, bondParts, planParts, blockParts, superframeParts};
 ghost use Rattle.s2xv2.specs.ListB.{wide, coreB, superframeB};
 ghost use Rattle.s2xv2.proofs.Lists.{Clear};
+ghost use Rattle.s2xv2.specs.declared.option.OptionU32.the-variants as O32;
+ghost use Rattle.s2xv2.specs.declared.superframe.OptionSuperframe.the-variants as OS;
+ghost use Rattle.flat.specs.Input.{blockIn, recordIn};
 ghost use Rattle.writer.specs.Bytes.{flagBytes, blockBytes};
-ghost use Rattle.s2xv2.specs.declared.superframe.OptionSuperframe.the-variants.{Some};
+ghost use Rattle.checks.specs.Flagged.{FlaggedBlock, Flagged};
 use crate::store::copy;
 use crate::store::put;
 use crate::store::put_24;
 use crate::store::put_32;
+use checks::flag::picked;
+use flat::types::FlatRecord;
+use flat::types::FlatSuperframe;
 use lists::list_b::less_one;
-use lists::list_b::nibble;
-use s2xv2::option::OptionBool;
-use s2xv2::option::OptionU8;
-use s2xv2::option::OptionU32;
-use s2xv2::record::S2Xv2SatelliteDeliverySystem;
-use s2xv2::superframe::OptionSuperframe;
-use s2xv2::superframe::S2Xv2Superframe;
-use wire::field::bit_of;
 use wire::number::be_bytes_24;
 
 // Byte 4: S2Xv2_mode 4, multiple_input_stream_flag 1, roll_off 3.
-fn byte_4(mode: u8, flag: bool, roll: u8) -> u8
-    requires { ⌜ (mode < 16) × (roll < 8) ⌝ }
-    ensures { λ b. ⌜ b ≡ ((mode * 2 + bit flag) * 8 + roll) % 256 ⌝ }
+fn byte_4(mode: u8, flag: u8, roll: u8) -> u8
+    requires { ⌜ (mode < 16) × (flag < 2) × (roll < 8) ⌝ }
+    ensures { λ b. ⌜ b ≡ ((mode * 2 + flag) * 8 + roll) % 256 ⌝ }
 {
-    mode * 16 + bit_of(flag) * 8 + roll
+    mode * 16 + flag * 8 + roll
 }
 
 // Byte 5: reserved 2, NCR_reference 1, NCR_version 1, channel_bond 2, polarization 2.
-fn byte_5(reserved: u8, reference: bool, version: bool, bond: u8, polarization: u8) -> u8
-    requires { ⌜ (reserved < 4) × (bond < 4) × (polarization < 4) ⌝ }
-    ensures { λ b. ⌜ b ≡ ((((reserved * 2 + bit reference) * 2 + bit version) * 4 + bond) * 4 + polarization) % 256 ⌝ }
+fn byte_5(reserved: u8, reference: u8, version: u8, bond: u8, polarization: u8) -> u8
+    requires { ⌜ (reserved < 4) × (reference < 2) × (version < 2) × (bond < 4) × (polarization < 4) ⌝ }
+    ensures { λ b. ⌜ b ≡ ((((reserved * 2 + reference) * 2 + version) * 4 + bond) * 4 + polarization) % 256 ⌝ }
 {
-    reserved * 64 + bit_of(reference) * 32 + bit_of(version) * 16 + bond * 4 + polarization
+    reserved * 64 + reference * 32 + version * 16 + bond * 4 + polarization
 }
 
-// The top bit of byte 6: the selector, or what is reserved in its place.
-fn top_bit(selector: OptionBool, reserved: u8) -> u8
-    ensures { λ r. ⌜ r ≡ topBit selector reserved ⌝ }
-{
-    match selector {
-        OptionBool::Some(b) => bit_of(b),
-        OptionBool::None => reserved,
-    }
-}
-
-// Byte 6: the top bit, TS_GS_S2X_mode 2, receiver_profiles 5.
+// Byte 6: the selector or what is reserved in its place 1, TS_GS_S2X_mode 2, receiver_profiles 5.
 fn byte_6(top: u8, tsgs: u8, profiles: u8) -> u8
     requires { ⌜ (top < 2) × (tsgs < 4) × (profiles < 32) ⌝ }
     ensures { λ b. ⌜ b ≡ ((top * 4 + tsgs) * 32 + profiles) % 256 ⌝ }
@@ -67,50 +55,53 @@ fn byte_6(top: u8, tsgs: u8, profiles: u8) -> u8
 }
 
 // Bytes 4 to 6.
-fn flag_bytes(r: S2Xv2SatelliteDeliverySystem) -> [u8; 3]
-    requires { ⌜ Clear (coreB r) ⌝ }
-    ensures { λ a. ⌜ a ≡ flagBytes r ⌝ }
+fn flag_bytes(c: FlatRecord) -> [u8; 3]
+    requires { ⌜ Flagged c ⌝ }
+    requires { ⌜ Clear (coreB (recordIn c)) ⌝ }
+    ensures { λ a. ⌜ a ≡ flagBytes (recordIn c) ⌝ }
 {
-    let mode = r.s2xv2_mode;
-    let selector = r.scrambling_sequence_selector;
-    let b4 = byte_4(mode.to_u8(), r.multiple_input_stream_flag, r.roll_off);
+    let b4 = byte_4(c.s2xv2_mode, c.multiple_input_stream_flag, c.roll_off);
     let b5 = byte_5(
-        r.reserved_zero_future_use_2,
-        r.ncr_reference,
-        r.ncr_version,
-        r.channel_bond,
-        r.polarization,
+        c.reserved_zero_future_use_2,
+        c.ncr_reference,
+        c.ncr_version,
+        c.channel_bond,
+        c.polarization,
     );
-    let top = top_bit(selector, r.reserved_zero_future_use_1);
-    let b6 = byte_6(top, r.ts_gs_s2x_mode, r.receiver_profiles);
+    let top = picked(
+        c.has_scrambling_sequence_selector,
+        c.scrambling_sequence_selector,
+        c.reserved_zero_future_use_1,
+    );
+    let b6 = byte_6(top, c.ts_gs_s2x_mode, c.receiver_profiles);
     [b4, b5, b6]
 }
 
 // The core, from the start.
-pub(crate) fn put_core(buf: &mut [u8], r: S2Xv2SatelliteDeliverySystem)
+pub(crate) fn put_core(buf: &mut [u8], c: FlatRecord)
     requires { ⌜ 18 ≤ length (now buf) ⌝ }
-    requires { ⌜ Clear (coreB r) ⌝ }
-    ensures { λ _. ⌜ now (buf .exit) ≡ stored (now (buf .entry)) 0 (pack core (coreValues r)) ⌝ }
+    requires { ⌜ Flagged c ⌝ }
+    requires { ⌜ Clear (coreB (recordIn c)) ⌝ }
+    ensures { λ _. ⌜ now (buf .exit) ≡ stored (now (buf .entry)) 0 (pack core (coreValues (recordIn c))) ⌝ }
 {
-    let flags = flag_bytes(r);
-    put_32(buf, 0, r.delivery_system_id);
+    let flags = flag_bytes(c);
+    put_32(buf, 0, c.delivery_system_id);
     copy(buf, 4, &flags);
-    put_24(buf, 7, r.satellite_id);
-    put_32(buf, 10, r.frequency);
-    put_32(buf, 14, r.symbol_rate);
+    put_24(buf, 7, c.satellite_id);
+    put_32(buf, 10, c.frequency);
+    put_32(buf, 14, c.symbol_rate);
 }
 
 // A part of one byte: the input stream identifier, and the timeslice number.
-pub(crate) fn put_byte(buf: &mut [u8], p: usize, v: OptionU8) -> usize
-    requires { ⌜ p + sizes (byteParts (8 ∷ []) v) ≤ length (now buf) ⌝ }
-    ensures { λ q. ⌜ (q ≡ p + sizes (byteParts (8 ∷ []) v)) × (now (buf .exit) ≡ stored (now (buf .entry)) p (bytesOf (byteParts (8 ∷ []) v) [])) ⌝ }
+pub(crate) fn put_byte(buf: &mut [u8], p: usize, there: u8, v: u8) -> usize
+    requires { ⌜ p + sizes (byteParts (8 ∷ []) (some8If (isOne there) v)) ≤ length (now buf) ⌝ }
+    ensures { λ q. ⌜ (q ≡ p + sizes (byteParts (8 ∷ []) (some8If (isOne there) v))) × (now (buf .exit) ≡ stored (now (buf .entry)) p (bytesOf (byteParts (8 ∷ []) (some8If (isOne there) v)) [])) ⌝ }
 {
-    match v {
-        OptionU8::Some(b) => {
-            put(buf, p, b);
-            p + 1
-        }
-        OptionU8::None => p,
+    if there == 1 {
+        put(buf, p, v);
+        p + 1
+    } else {
+        p
     }
 }
 
@@ -122,19 +113,13 @@ fn index_word(reserved: u8, index: u32) -> u32
     (reserved as u32) * 262144 + index
 }
 
-pub(crate) fn put_scrambling(
-    buf: &mut [u8],
-    p: usize,
-    there: bool,
-    reserved: u8,
-    index: OptionU32,
-) -> usize
-    requires { ⌜ p + sizes (scramblingParts there reserved index) ≤ length (now buf) ⌝ }
-    requires { ⌜ (and there (wide 18 (orZero32 index)) ≡ false) × (and there (wide 6 reserved) ≡ false) ⌝ }
-    ensures { λ q. ⌜ (q ≡ p + sizes (scramblingParts there reserved index)) × (now (buf .exit) ≡ stored (now (buf .entry)) p (bytesOf (scramblingParts there reserved index) [])) ⌝ }
+pub(crate) fn put_scrambling(buf: &mut [u8], p: usize, there: u8, reserved: u8, index: u32) -> usize
+    requires { ⌜ p + sizes (scramblingParts (isOne there) reserved (O32.Some index)) ≤ length (now buf) ⌝ }
+    requires { ⌜ (and (isOne there) (wide 18 index) ≡ false) × (and (isOne there) (wide 6 reserved) ≡ false) ⌝ }
+    ensures { λ q. ⌜ (q ≡ p + sizes (scramblingParts (isOne there) reserved (O32.Some index))) × (now (buf .exit) ≡ stored (now (buf .entry)) p (bytesOf (scramblingParts (isOne there) reserved (O32.Some index)) [])) ⌝ }
 {
-    if there {
-        put_24(buf, p, index_word(reserved, index.or_zero()));
+    if there == 1 {
+        put_24(buf, p, index_word(reserved, index));
         p + 3
     } else {
         p
@@ -153,20 +138,21 @@ fn bond_header(reserved: u8, less: u8) -> u8
 pub(crate) fn put_bonds(
     buf: &mut [u8],
     p: usize,
-    there: bool,
+    bond: u8,
     reserved: u8,
     count: u8,
-    ids: [u32; 2],
+    first: u32,
+    second: u32,
 ) -> usize
-    requires { ⌜ p + sizes (bondParts there reserved count ids) ≤ length (now buf) ⌝ }
-    requires { ⌜ (and there (wide 1 (lessOne count)) ≡ false) × (and there (wide 7 reserved) ≡ false) ⌝ }
-    ensures { λ q. ⌜ (q ≡ p + sizes (bondParts there reserved count ids)) × (now (buf .exit) ≡ stored (now (buf .entry)) p (bytesOf (bondParts there reserved count ids) [])) ⌝ }
+    requires { ⌜ p + sizes (bondParts (eqb bond 1) reserved count (first ∷ second ∷ [])) ≤ length (now buf) ⌝ }
+    requires { ⌜ (and (eqb bond 1) (wide 1 (lessOne count)) ≡ false) × (and (eqb bond 1) (wide 7 reserved) ≡ false) ⌝ }
+    ensures { λ q. ⌜ (q ≡ p + sizes (bondParts (eqb bond 1) reserved count (first ∷ second ∷ []))) × (now (buf .exit) ≡ stored (now (buf .entry)) p (bytesOf (bondParts (eqb bond 1) reserved count (first ∷ second ∷ [])) [])) ⌝ }
 {
-    if there {
+    if bond == 1 {
         put(buf, p, bond_header(reserved, less_one(count)));
-        put_32(buf, p + 1, ids[0]);
+        put_32(buf, p + 1, first);
         if count == 2 {
-            put_32(buf, p + 5, ids[1]);
+            put_32(buf, p + 5, second);
             p + 9
         } else {
             p + 5
@@ -177,11 +163,11 @@ pub(crate) fn put_bonds(
 }
 
 // SFFI_selector 1, beam_hopping_time_plan_selector 1, reserved 2, reference_scrambling_index 20.
-fn reference_word(selector: bool, hopping: bool, reserved: u8, reference: u32) -> u32
-    requires { ⌜ (reserved < 4) × (reference < 1048576) ⌝ }
-    ensures { λ r. ⌜ r ≡ ((bit selector * 2 + bit hopping) * 4 + reserved) * 1048576 + reference ⌝ }
+fn reference_word(selector: u8, hopping: u8, reserved: u8, reference: u32) -> u32
+    requires { ⌜ (selector < 2) × (hopping < 2) × (reserved < 4) × (reference < 1048576) ⌝ }
+    ensures { λ r. ⌜ r ≡ ((selector * 2 + hopping) * 4 + reserved) * 1048576 + reference ⌝ }
 {
-    (((bit_of(selector) * 2 + bit_of(hopping)) * 4 + reserved) as u32) * 1048576 + reference
+    (((selector * 2 + hopping) * 4 + reserved) as u32) * 1048576 + reference
 }
 
 // SFFI or reserved 4, payload_scrambling_index 20.
@@ -208,18 +194,18 @@ fn octet(v: u8) -> u8
 }
 
 // The block up to its plan id.
-fn block_bytes(f: S2Xv2Superframe) -> [u8; 7]
-    requires { ⌜ Clear (superframeB (Some f)) ⌝ }
-    ensures { λ a. ⌜ a ≡ blockBytes f ⌝ }
+fn block_bytes(f: FlatSuperframe) -> [u8; 7]
+    requires { ⌜ FlaggedBlock f ⌝ }
+    requires { ⌜ Clear (superframeB (OS.Some (blockIn f))) ⌝ }
+    ensures { λ a. ⌜ a ≡ blockBytes (blockIn f) ⌝ }
 {
-    let sffi = f.sffi;
     let reference = be_bytes_24(reference_word(
         f.sffi_selector,
         f.beam_hopping_time_plan_selector,
         f.reserved_zero_future_use_2,
         f.reference_scrambling_index,
     ));
-    let four = nibble(f.sffi_selector, sffi, f.reserved_zero_future_use_4);
+    let four = picked(f.sffi_selector, f.sffi, f.reserved_zero_future_use_4);
     let payload = be_bytes_24(payload_word(four, f.payload_scrambling_index));
     [
         octet(f.sosf_wh_sequence_number),
@@ -232,12 +218,12 @@ fn block_bytes(f: S2Xv2Superframe) -> [u8; 7]
     ]
 }
 
-fn put_plan(buf: &mut [u8], p: usize, there: bool, plan: OptionU32) -> usize
-    requires { ⌜ p + sizes (planParts there plan) ≤ length (now buf) ⌝ }
-    ensures { λ q. ⌜ (q ≡ p + sizes (planParts there plan)) × (now (buf .exit) ≡ stored (now (buf .entry)) p (bytesOf (planParts there plan) [])) ⌝ }
+fn put_plan(buf: &mut [u8], p: usize, there: u8, plan: u32) -> usize
+    requires { ⌜ p + sizes (planParts (isOne there) (O32.Some plan)) ≤ length (now buf) ⌝ }
+    ensures { λ q. ⌜ (q ≡ p + sizes (planParts (isOne there) (O32.Some plan))) × (now (buf .exit) ≡ stored (now (buf .entry)) p (bytesOf (planParts (isOne there) (O32.Some plan)) [])) ⌝ }
 {
-    if there {
-        put_32(buf, p, plan.or_zero());
+    if there == 1 {
+        put_32(buf, p, plan);
         p + 4
     } else {
         p
@@ -245,27 +231,30 @@ fn put_plan(buf: &mut [u8], p: usize, there: bool, plan: OptionU32) -> usize
 }
 
 // The superframe block: its first seven bytes, the plan id if its selector is set, and the last byte.
-fn put_block(buf: &mut [u8], p: usize, f: S2Xv2Superframe) -> usize
-    requires { ⌜ p + sizes (blockParts f) ≤ length (now buf) ⌝ }
-    requires { ⌜ Clear (superframeB (Some f)) ⌝ }
-    ensures { λ q. ⌜ (q ≡ p + sizes (blockParts f)) × (now (buf .exit) ≡ stored (now (buf .entry)) p (bytesOf (blockParts f) [])) ⌝ }
+fn put_block(buf: &mut [u8], p: usize, f: FlatSuperframe) -> usize
+    requires { ⌜ p + sizes (blockParts (blockIn f)) ≤ length (now buf) ⌝ }
+    requires { ⌜ FlaggedBlock f ⌝ }
+    requires { ⌜ Clear (superframeB (OS.Some (blockIn f))) ⌝ }
+    ensures { λ q. ⌜ (q ≡ p + sizes (blockParts (blockIn f))) × (now (buf .exit) ≡ stored (now (buf .entry)) p (bytesOf (blockParts (blockIn f)) [])) ⌝ }
 {
-    let plan = f.beamhopping_time_plan_id;
     let block = block_bytes(f);
     let last = last_byte(f.superframe_pilots_wh_sequence_number, f.postamble_pli);
     copy(buf, p, &block);
-    let q = put_plan(buf, p + 7, f.beam_hopping_time_plan_selector, plan);
+    let q = put_plan(
+        buf,
+        p + 7,
+        f.beam_hopping_time_plan_selector,
+        f.beamhopping_time_plan_id,
+    );
     put(buf, q, last);
     q + 1
 }
 
-pub(crate) fn put_superframe(buf: &mut [u8], p: usize, superframe: OptionSuperframe) -> usize
-    requires { ⌜ p + sizes (superframeParts superframe) ≤ length (now buf) ⌝ }
-    requires { ⌜ Clear (superframeB superframe) ⌝ }
-    ensures { λ q. ⌜ (q ≡ p + sizes (superframeParts superframe)) × (now (buf .exit) ≡ stored (now (buf .entry)) p (bytesOf (superframeParts superframe) [])) ⌝ }
+pub(crate) fn put_superframe(buf: &mut [u8], p: usize, there: u8, f: FlatSuperframe) -> usize
+    requires { ⌜ p + sizes (superframeParts (someSuperframeIf (isOne there) (blockIn f))) ≤ length (now buf) ⌝ }
+    requires { ⌜ FlaggedBlock f ⌝ }
+    requires { ⌜ Clear (superframeB (someSuperframeIf (isOne there) (blockIn f))) ⌝ }
+    ensures { λ q. ⌜ (q ≡ p + sizes (superframeParts (someSuperframeIf (isOne there) (blockIn f)))) × (now (buf .exit) ≡ stored (now (buf .entry)) p (bytesOf (superframeParts (someSuperframeIf (isOne there) (blockIn f))) [])) ⌝ }
 {
-    match superframe {
-        OptionSuperframe::Some(f) => put_block(buf, p, f),
-        OptionSuperframe::None => p,
-    }
+    if there == 1 { put_block(buf, p, f) } else { p }
 }

@@ -1,95 +1,35 @@
--- `writer::serialize_into` meets its contract: the laws of the answer say in which order a record is refused, and what it leaves.
+-- `writer::serialize_into` meets its contract: a record that crosses out is the same record.
 -- Assumes nothing.
-use mathlib.Core.Path.{_≡_, sym, ap, _∙_}
-use native.Mathlib.Omega.{arith}
+use mathlib.Core.Path.{sym, ap, _∙_}
+use mathlib.Core.List.{List}
+use Prim.Native.Nat.{ℕ}
 use lib.ListN.{length}
 use denote.Ref.{now}
-use Rattle.s2xv2.specs.Answer.{numbers, told}
-use Rattle.s2xv2.specs.Read.{numberOf}
-use Rattle.s2xv2.specs.ListB.{listB, unwritable}
-use Rattle.s2xv2.specs.Length.{lengthTold}
-use Rattle.s2xv2.specs.Write.{writeTold}
-use Rattle.s2xv2.specs.declared.answer.Refusal.the-variants.{Room, Field}
-use Rattle.s2xv2.proofs.Reach.{refused}
-use Rattle.s2xv2.proofs.Lists.{first-clear}
-use Rattle.s2xv2.proofs.Written.{measured, refused-alike, told-room, told-field, told-written, written-refused, written-accepted}
+use Rattle.s2xv2.specs.Write.{writeTold, written}
+use Rattle.s2xv2.specs.declared.record.S2Xv2SatelliteDeliverySystem.{S2Xv2SatelliteDeliverySystem}
+use Rattle.flat.specs.Input.{recordIn}
+use Rattle.flat.proofs.Back.{back, out-valid}
+use Rattle.checks.proofs.Flags.{flagged}
 use borrow.Author.Needs.{needs}
 use Rattle.writer.proofs.serialize_into.Statement.{statement}
 use Rattle.writer.proofs.serialize_into.Tie as tie
 
-serialized-len-requires : tie.Need-serialized-len-requires
-serialized-len-requires c κs = search needs
+record-out-requires : tie.Need-record-out-requires
+record-out-requires c κs = search needs
 
-enum-known-measured : tie.Need-enum-known-measured
-enum-known-measured c = search needs
-
-enum-told : tie.Need-enum-told
-enum-told c = search needs
-
-returns : tie.Need-returns
-returns c =
-    let a = c .before .before .before .before .before .args in
-    let t = now (a .reserved-tail) in
-    let why = c .enum-told .given .0 .0 in
-    let e : numbers why ≡ lengthTold (a .r) t = sym (ap told (c .enum-told .given .1)) ∙ c .before .before .serialized-len .ensures in
-    let d : writeTold (a .r) t (length (now (a .buf))) ≡ lengthTold (a .r) t = refused-alike (a .r) t _ (λ z. refused why (ap numberOf e ∙ z)) in
-    (c .before .before .serialized-len .ensures ∙ sym d, sym (written-refused (a .r) t (now (a .buf)) why (e ∙ sym d)))
-
-returns-2 : tie.Need-returns-2
-returns-2 c =
-    let a = c .before .before .before .before .before .before .before .args in
-    let t = now (a .reserved-tail) in
-    let m = measured (a .r) t _ (sym (ap told (c .before .before .measured .given .1)) ∙ c .before .before .before .before .serialized-len .ensures) in
-    let h = c .before .before .measured .given .0 .0 in
-    let e = told-room (a .r) t (m .consistent) (omega (arith, m .size, m .within)) (length (now (a .buf))) (omega (arith, m .size, c .if1 .taken)) in
-    let d = rw (m .size) at e in
-    (sym d, sym (written-refused (a .r) t (now (a .buf)) (Room h (length (now (a .buf)))) (sym d)))
-
-unwritable-requires : tie.Need-unwritable-requires
-unwritable-requires c κs = search needs
-
-returns-3 : tie.Need-returns-3
-returns-3 c =
-    let a = c .before .before .before .before .before .before .before .before .before .args in
-    let t = now (a .reserved-tail) in
-    let m = measured (a .r) t _ (sym (ap told (c .before .before .before .before .measured .given .1)) ∙ c .before .before .before .before .before .before .serialized-len .ensures) in
-    let u = c .before .unwritable in
-    let e = told-field (a .r) t (m .consistent) (omega (arith, m .size, m .within)) (length (now (a .buf))) (omega (arith, m .size, c .before .before .if1 .left)) (omega (arith, u .ensures, c .if2 .taken)) in
-    let d = rw (← u .ensures) at e in
-    (sym d, sym (written-refused (a .r) t (now (a .buf)) (Field (u .result)) (sym d)))
-
-put-all-requires : tie.Need-put-all-requires
-unfolding unwritable
-put-all-requires c κs =
-    let a = c .before .before .before .before .before .before .before .before .before .before .args in
-    let m = measured (a .r) (now (a .reserved-tail)) _ (sym (ap told (c .before .before .before .before .before .measured .given .1)) ∙ c .before .before .before .before .before .before .before .serialized-len .ensures) in (
-      omega (arith, m .size, c .before .before .before .if1 .left),
-      first-clear 0 (listB (a .r)) (sym (c .before .before .unwritable .ensures) ∙ c .before .if2 .left),
-    )
+put-judged-requires : tie.Need-put-judged-requires
+put-judged-requires c κs = rw (c .before .record-out .ensures) (flagged _ (out-valid (c .before .before .before .before .args .r)))
 
 same-length : tie.Need-same-length
 same-length c = search needs
 
-returns-4 : tie.Need-returns-4
-returns-4 c =
-    let a = c .before .before .before .before .before .before .before .before .before .before .before .before .before .args in
-    let t = now (a .reserved-tail) in
-    let m = measured (a .r) t _ (sym (ap told (c .before .before .before .before .before .before .before .before .measured .given .1)) ∙ c .before .before .before .before .before .before .before .before .before .before .serialized-len .ensures) in
-    let b = sym (c .before .before .before .before .before .unwritable .ensures) ∙ c .before .before .before .before .if2 .left in
-    let e = told-written (a .r) t (m .consistent) (omega (arith, m .size, m .within)) (length (now (a .buf))) (omega (arith, m .size, c .before .before .before .before .before .before .if1 .left)) b in
-    (rw (m .size) at (sym e), c .before .before .put-all .ensures ∙ sym (written-accepted (a .r) t (now (a .buf)) _ (sym e)))
+returns : tie.Need-returns
+returns c =
+    let a = c .before .before .before .before .before .before .before .args in
+    let e = ap recordIn (c .before .before .before .before .record-out .ensures) ∙ back (a .r) in
+    let j = c .before .before .put-judged .ensures in
+    (j .0 ∙ ap (λ (r : S2Xv2SatelliteDeliverySystem). writeTold r (now (a .reserved-tail)) (length (now (a .buf)))) e, j .1 ∙ ap (λ (r : S2Xv2SatelliteDeliverySystem). written r (now (a .reserved-tail)) (now (a .buf))) e)
 
 pub serialize-into-spec : {M : Type 1} → statement M
 serialize-into-spec =
-    tie.close
-    (tie.spec
-    serialized-len-requires
-    enum-known-measured
-    enum-told
-    returns
-    returns-2
-    unwritable-requires
-    returns-3
-    put-all-requires
-    same-length
-    returns-4)
+    tie.close (tie.spec record-out-requires put-judged-requires same-length returns)

@@ -1,60 +1,24 @@
--- `writer::serialized_len` meets its contract: the tests pick the case of the definition.
+-- `writer::serialized_len` meets its contract: a record that crosses out is the same record.
 -- Assumes nothing.
-use mathlib.Core.Path.{sym, _∙_}
-use Prim.Native.Nat.{_<_}
-use native.Mathlib.Omega.{arith}
-use borrow.Author.Tests.{lt-ltb, le-ltb}
-use Rattle.s2xv2.specs.Encode.{encodedLength}
+use mathlib.Core.Path.{sym, ap, _∙_}
+use denote.Ref.{now}
 use Rattle.s2xv2.specs.Length.{lengthTold}
+use Rattle.s2xv2.specs.declared.record.S2Xv2SatelliteDeliverySystem.{S2Xv2SatelliteDeliverySystem}
+use Rattle.flat.specs.Input.{recordIn}
+use Rattle.flat.proofs.Back.{back, out-valid}
+use Rattle.checks.proofs.Flags.{flagged}
 use borrow.Author.Needs.{needs}
 use Rattle.writer.proofs.serialized_len.Statement.{statement}
 use Rattle.writer.proofs.serialized_len.Tie as tie
 
-inconsistency-requires : tie.Need-inconsistency-requires
-inconsistency-requires c κs = search needs
+record-out-requires : tie.Need-record-out-requires
+record-out-requires c κs = search needs
+
+judged-len-requires : tie.Need-judged-len-requires
+judged-len-requires c κs = rw (c .record-out .ensures) (flagged _ (out-valid (c .before .before .args .r)))
 
 returns : tie.Need-returns
-unfolding lengthTold encodedLength
-returns c =
-    let h : 0 < c .before .inconsistency .result = omega (arith, c .if1 .taken) in
-    simp (sym (c .before .inconsistency .ensures), lt-ltb _ _ h)
-
-parts-len-requires : tie.Need-parts-len-requires
-parts-len-requires c κs = search needs
-
-add-need : tie.Need-add-need
-add-need c = search needs
-
-saturated-requires : tie.Need-saturated-requires
-saturated-requires c κs = search needs
-
-returns-2 : tie.Need-returns-2
-unfolding lengthTold encodedLength
-returns-2 c =
-    simp (
-      sym (c .before .before .before .before .inconsistency .ensures) ∙ c .before .before .before .if1 .left,
-      sym (c .before .before .parts-len .ensures .0),
-      lt-ltb _ _ (c .before .if2 .taken),
-      c .saturated .ensures,
-    )
-
-returns-3 : tie.Need-returns-3
-unfolding lengthTold encodedLength
-returns-3 c =
-    simp (
-      sym (c .before .before .before .inconsistency .ensures) ∙ c .before .before .if1 .left,
-      sym (c .before .parts-len .ensures .0),
-      le-ltb _ _ (c .if2 .left),
-    )
+returns c = c .judged-len .ensures ∙ ap (λ (r : S2Xv2SatelliteDeliverySystem). lengthTold r (now (c .before .before .before .args .reserved-tail))) (ap recordIn (c .before .record-out .ensures) ∙ back (c .before .before .before .args .r))
 
 pub serialized-len-spec : {M : Type 1} → statement M
-serialized-len-spec =
-    tie.close
-    (tie.spec
-    inconsistency-requires
-    returns
-    parts-len-requires
-    add-need
-    saturated-requires
-    returns-2
-    returns-3)
+serialized-len-spec = tie.close (tie.spec record-out-requires judged-len-requires returns)

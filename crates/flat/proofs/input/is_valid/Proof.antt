@@ -1,7 +1,11 @@
--- `flat::input::is_valid` meets its contract: the tests pick the case.
+-- `flat::input::is_valid` meets its contract: the flags that are joined are all flags, and the test picks the case.
 -- Assumes nothing.
-use mathlib.Core.Path.{sym, _∙_}
-use Rattle.flat.specs.Input.{valid}
+use mathlib.Core.Path.{_≡_, sym, _∙_}
+use mathlib.Core.Bool.{true, false}
+use borrow.Author.Tests.{lt-ltb, le-ltb}
+use Rattle.wire.specs.Flags.{and}
+use Rattle.flat.specs.Input.{flags, recordFlags, blockFlags, named, valid}
+use Rattle.flat.proofs.Joined.{and-assoc}
 use borrow.Author.Needs.{needs}
 use Rattle.flat.proofs.input.is_valid.Statement.{statement}
 use Rattle.flat.proofs.input.is_valid.Tie as tie
@@ -12,20 +16,25 @@ record-flags-requires c κs = search needs
 block-flags-requires : tie.Need-block-flags-requires
 block-flags-requires c κs = search needs
 
+joined-requires : tie.Need-joined-requires
+joined-requires c κs = search needs
+
 is-named-requires : tie.Need-is-named-requires
 is-named-requires c κs = search needs
 
 returns : tie.Need-returns
 unfolding valid
-returns c = simp (c .is-named .ensures, sym (c .before .before .block-flags .ensures) ∙ c .before .if2 .taken, sym (c .before .before .before .before .record-flags .ensures) ∙ c .before .before .before .if1 .taken)
+returns c =
+    let r = c .before .before .before .before .before .before .args .c in
+    let e : and (flags (recordFlags r)) (flags (blockFlags (r .superframe))) ≡ true = simp (sym (c .before .before .before .before .record-flags .ensures), sym (c .before .before .before .block-flags .ensures)) (sym (c .before .before .joined .ensures 1) ∙ lt-ltb _ _ (c .before .if1 .taken)) in
+    simp (c .is-named .ensures, sym (and-assoc (flags (recordFlags r)) (flags (blockFlags (r .superframe))) (named (r .«mode_is_reserved») (r .«s2xv2_mode»))), e)
 
 returns-2 : tie.Need-returns-2
 unfolding valid
-returns-2 c = simp (sym (c .before .block-flags .ensures) ∙ c .if2 .left, sym (c .before .before .before .record-flags .ensures) ∙ c .before .before .if1 .taken)
-
-returns-3 : tie.Need-returns-3
-unfolding valid
-returns-3 c = simp (sym (c .before .record-flags .ensures) ∙ c .if1 .left)
+returns-2 c =
+    let r = c .before .before .before .before .before .args .c in
+    let e : and (flags (recordFlags r)) (flags (blockFlags (r .superframe))) ≡ false = simp (sym (c .before .before .before .record-flags .ensures), sym (c .before .before .block-flags .ensures)) (sym (c .before .joined .ensures 1) ∙ le-ltb _ _ (c .if1 .left)) in
+    simp (sym (and-assoc (flags (recordFlags r)) (flags (blockFlags (r .superframe))) (named (r .«mode_is_reserved») (r .«s2xv2_mode»))), e)
 
 pub is-valid-spec : {M : Type 1} → statement M
 is-valid-spec =
@@ -33,7 +42,7 @@ is-valid-spec =
     (tie.spec
     record-flags-requires
     block-flags-requires
+    joined-requires
     is-named-requires
     returns
-    returns-2
-    returns-3)
+    returns-2)

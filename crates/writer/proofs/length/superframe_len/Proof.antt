@@ -1,43 +1,29 @@
--- `writer::length::superframe_len` meets its contract: the arm that was taken is the case of the definition.
+-- `writer::length::superframe_len` meets its contract: the test picks the case, and the block is as long as the law of its size has it.
 -- Assumes nothing.
-use mathlib.Core.Bool.{Bool, true, false}
-use Prim.Native.Nat.{_≤_}
 use native.Mathlib.Omega.{arith}
-use Rattle.s2xv2.specs.declared.superframe.S2Xv2Superframe.{S2Xv2Superframe}
-use mathlib.Core.List.{[], _∷_, _++_}
-use Prim.Native.Nat.{_+_}
-use Rattle.wire.specs.Parts.{_⦂_, sizes}
-use Rattle.s2xv2.specs.Table144b.{superframeEnd}
-use Rattle.s2xv2.specs.declared.option.OptionU32.{OptionU32}
-use Rattle.s2xv2.specs.Encode.{blockLength, planParts, superframeEndValues, superframeParts}
+use borrow.Author.Tests.{eq-eqb, ne-eqb}
+use Rattle.s2xv2.specs.Encode.{superframeParts}
+use Rattle.checks.proofs.Flags.{block-size}
 use borrow.Author.Needs.{needs}
 use Rattle.writer.proofs.length.superframe_len.Statement.{statement}
 use Rattle.writer.proofs.length.superframe_len.Tie as tie
 
-most : (f : S2Xv2Superframe) → blockLength f ≤ 12
-most f = go (f .«beam_hopping_time_plan_selector») (f .«beamhopping_time_plan_id»)
-  where
-    go : (t : Bool) (v : OptionU32) → 7 + (sizes (planParts t v ++ (superframeEnd ⦂ superframeEndValues f ∷ []))) ≤ 12
-    go true v = omega arith
-    go false v = omega arith
+cast-result : tie.Need-cast-result
+cast-result c = search needs
 
-enum-known-superframe : tie.Need-enum-known-superframe
-enum-known-superframe c = search needs
+mul-result : tie.Need-mul-result
+mul-result c = search needs
 
-serialized-len-requires : tie.Need-serialized-len-requires
-serialized-len-requires c κs = search needs
-
-enum-told : tie.Need-enum-told
-enum-told c = search needs
+add-result : tie.Need-add-result
+add-result c = search needs
 
 returns : tie.Need-returns
 unfolding superframeParts
-returns c = rw (c .before .before .superframe .given .1) (c .serialized-len .ensures, rw (c .serialized-len .ensures) (most (c .before .before .superframe .given .0 .0)))
+returns c = rw (eq-eqb _ _ (c .before .if1 .taken)) (block-size (c .before .before .args .f) (c .before .before .pre), omega (arith, c .before .before .pre .hopping))
 
 returns-2 : tie.Need-returns-2
 unfolding superframeParts
-returns-2 c = rw (c .enum-told .given .1) (omega arith, omega arith)
+returns-2 c = rw (ne-eqb _ _ (c .if1 .left)) (omega arith, omega arith)
 
 pub superframe-len-spec : {M : Type 1} → statement M
-superframe-len-spec =
-    tie.close (tie.spec enum-known-superframe serialized-len-requires enum-told returns returns-2)
+superframe-len-spec = tie.close (tie.spec cast-result mul-result add-result returns returns-2)

@@ -1,6 +1,11 @@
 -- `writer::parts::block_bytes` meets its contract: the values are within their widths, and each byte is packed as the table has it.
 -- Assumes nothing.
 use Rattle.s2xv2.proofs.Lists.{narrow}
+use Rattle.wire.specs.Flags.{isOne}
+use Rattle.s2xv2.specs.Options.{some8If}
+use Rattle.s2xv2.specs.Encode.{nibbleOf}
+use Rattle.flat.proofs.Back.{is-8}
+use Rattle.checks.proofs.Flags.{bit-is, there-nibble}
 use borrow.Author.Needs.{needs}
 use Rattle.writer.proofs.parts.block_bytes.Statement.{statement}
 use Rattle.writer.proofs.parts.block_bytes.Tie as tie
@@ -11,13 +16,15 @@ reference-word-requires c κs = search needs
 be-bytes-24-requires : tie.Need-be-bytes-24-requires
 be-bytes-24-requires c κs = search needs
 
-nibble-requires : tie.Need-nibble-requires
-nibble-requires c κs = search needs
+picked-requires : tie.Need-picked-requires
+picked-requires c κs = search needs
 
 payload-word-requires : tie.Need-payload-word-requires
 payload-word-requires c κs =
-    let b = c .before .before .before .pre in
-    (rw (c .nibble .ensures) (narrow 4 _ (b .1 .1 .1 .1 .0)), narrow 20 _ (b .1 .0))
+    let f = c .before .before .before .args .f in
+    let b = c .before .before .before .pre .1 in
+    let n = there-nibble (isOne (f .«sffi_selector»)) (isOne (f .«has_sffi»)) (f .sffi) (f .«reserved_zero_future_use_4») (rw (is-8 (isOne (f .«has_sffi»)) (f .sffi)) at (b .1 .1 .1 .0)) in
+    (rw (c .picked .ensures) (rw n at (narrow 4 (nibbleOf (isOne (f .«sffi_selector»)) (some8If (isOne (f .«has_sffi»)) (f .sffi)) (f .«reserved_zero_future_use_4»)) (b .1 .1 .1 .1 .0))), narrow 20 _ (b .1 .0))
 
 be-bytes-24-requires-2 : tie.Need-be-bytes-24-requires-2
 be-bytes-24-requires-2 c κs = search needs
@@ -25,33 +32,39 @@ be-bytes-24-requires-2 c κs = search needs
 octet-requires : tie.Need-octet-requires
 octet-requires c κs = search needs
 
-array-read-t11 : tie.Need-array-read-t11
-array-read-t11 c = search needs
+array-read-t10 : tie.Need-array-read-t10
+array-read-t10 c = search needs
 
-array-read-t14 : tie.Need-array-read-t14
-array-read-t14 c = search needs
+array-read-t13 : tie.Need-array-read-t13
+array-read-t13 c = search needs
 
-array-read-t17 : tie.Need-array-read-t17
-array-read-t17 c = search needs
+array-read-t16 : tie.Need-array-read-t16
+array-read-t16 c = search needs
 
-array-read-t20 : tie.Need-array-read-t20
-array-read-t20 c = search needs
+array-read-t19 : tie.Need-array-read-t19
+array-read-t19 c = search needs
 
-array-read-t23 : tie.Need-array-read-t23
-array-read-t23 c = search needs
+array-read-t22 : tie.Need-array-read-t22
+array-read-t22 c = search needs
 
-array-read-t26 : tie.Need-array-read-t26
-array-read-t26 c = search needs
+array-read-t25 : tie.Need-array-read-t25
+array-read-t25 c = search needs
 
 returns : tie.Need-returns
 returns c =
+    let f = c .before .before .before .before .before .before .args .f in
+    let b = c .before .before .before .before .before .before .pre .1 in
+    let g = c .before .before .before .before .before .before .pre .0 in
     simp (
       c .octet .ensures,
       c .before .be-bytes-242 .ensures,
       c .before .before .payload-word .ensures,
-      c .before .before .before .nibble .ensures,
+      c .before .before .before .picked .ensures,
       c .before .before .before .before .be-bytes-24 .ensures,
       c .before .before .before .before .before .reference-word .ensures,
+      bit-is (f .«sffi_selector») (g .selector),
+      bit-is (f .«beam_hopping_time_plan_selector») (g .hopping),
+      there-nibble (isOne (f .«sffi_selector»)) (isOne (f .«has_sffi»)) (f .sffi) (f .«reserved_zero_future_use_4») (rw (is-8 (isOne (f .«has_sffi»)) (f .sffi)) at (b .1 .1 .1 .0)),
     )
 
 pub block-bytes-spec : {M : Type 1} → statement M
@@ -60,14 +73,14 @@ block-bytes-spec =
     (tie.spec
     reference-word-requires
     be-bytes-24-requires
-    nibble-requires
+    picked-requires
     payload-word-requires
     be-bytes-24-requires-2
     octet-requires
-    array-read-t11
-    array-read-t14
-    array-read-t17
-    array-read-t20
-    array-read-t23
-    array-read-t26
+    array-read-t10
+    array-read-t13
+    array-read-t16
+    array-read-t19
+    array-read-t22
+    array-read-t25
     returns)

@@ -1,47 +1,49 @@
 -- `writer::parts::flag_bytes` meets its contract: the values are within their widths, and each byte is packed as the table has it.
 -- Assumes nothing.
-use Rattle.s2xv2.proofs.Lists.{narrow, top-fits}
+use Rattle.s2xv2.proofs.Lists.{narrow}
+use Rattle.wire.specs.Flags.{isOne}
+use Rattle.s2xv2.specs.Table144c.{codeOf}
+use Rattle.flat.specs.Input.{modeIn}
+use Rattle.checks.proofs.Flags.{bit-is, top-is, top-small}
+use Rattle.checks.proofs.Checked.{code-in}
 use borrow.Author.Needs.{needs}
 use Rattle.writer.proofs.parts.flag_bytes.Statement.{statement}
 use Rattle.writer.proofs.parts.flag_bytes.Tie as tie
 
-to-u8-requires : tie.Need-to-u8-requires
-to-u8-requires c κs = search needs
-
 byte-4-requires : tie.Need-byte-4-requires
 byte-4-requires c κs =
-    let b = c .before .pre in
-    (rw (c .to-u8 .ensures) (narrow 4 _ (b .0)), narrow 3 _ (b .1 .0))
+    let r = c .args .c in
+    let b = c .pre .1 in
+    (rw (code-in (r .«mode_is_reserved») (r .«s2xv2_mode»)) at (narrow 4 (codeOf (modeIn (r .«mode_is_reserved») (r .«s2xv2_mode»))) (b .0)), c .pre .0 .flag, narrow 3 _ (b .1 .0))
 
 byte-5-requires : tie.Need-byte-5-requires
 byte-5-requires c κs = search needs
 
-top-bit-requires : tie.Need-top-bit-requires
-top-bit-requires c κs = search needs
+picked-requires : tie.Need-picked-requires
+picked-requires c κs = search needs
 
 byte-6-requires : tie.Need-byte-6-requires
 byte-6-requires c κs =
-    let b = c .before .before .before .before .pre .1 .1 .1 .1 .1 in
-    let r = c .before .before .before .before .args .r in
-    (rw (c .top-bit .ensures) (top-fits (r .«scrambling_sequence_selector») _ (b .0)), narrow 2 _ (b .1 .0), narrow 5 _ (b .1 .1 .0))
+    let r = c .before .before .before .args .c in
+    let b = c .before .before .before .pre .1 .1 .1 .1 .1 .1 in
+    (rw (c .picked .ensures) (top-small (isOne (r .«has_scrambling_sequence_selector»)) (r .«scrambling_sequence_selector») (r .«reserved_zero_future_use_1») (c .before .before .before .pre .0 .selector) (b .0)), narrow 2 _ (b .1 .0), narrow 5 _ (b .1 .1 .0))
 
 returns : tie.Need-returns
 returns c =
+    let r = c .before .before .before .before .args .c in
+    let g = c .before .before .before .before .pre .0 in
     simp (
       c .byte-6 .ensures,
-      c .before .top-bit .ensures,
+      c .before .picked .ensures,
       c .before .before .byte-5 .ensures,
       c .before .before .before .byte-4 .ensures,
-      c .before .before .before .before .to-u8 .ensures,
+      code-in (r .«mode_is_reserved») (r .«s2xv2_mode»),
+      bit-is (r .«multiple_input_stream_flag») (g .flag),
+      bit-is (r .«ncr_reference») (g .reference),
+      bit-is (r .«ncr_version») (g .version),
+      top-is (isOne (r .«has_scrambling_sequence_selector»)) (r .«scrambling_sequence_selector») (r .«reserved_zero_future_use_1») (g .selector),
     )
 
 pub flag-bytes-spec : {M : Type 1} → statement M
 flag-bytes-spec =
-    tie.close
-    (tie.spec
-    to-u8-requires
-    byte-4-requires
-    byte-5-requires
-    top-bit-requires
-    byte-6-requires
-    returns)
+    tie.close (tie.spec byte-4-requires byte-5-requires picked-requires byte-6-requires returns)

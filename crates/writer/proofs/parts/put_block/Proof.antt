@@ -6,49 +6,52 @@ use Prim.Native.Nat.{ℕ}
 use native.Mathlib.Omega.{arith}
 use denote.Ref.{now}
 use Rattle.wire.specs.Store.{stored}
+use Rattle.wire.specs.Flags.{isOne}
 use Rattle.wire.proofs.Stores.{run}
 use Rattle.wire.specs.Parts.{Part, _⦂_}
 use Rattle.wire.proofs.Parts.{sizes-append}
 use Rattle.s2xv2.specs.Table144b as T
 use Rattle.s2xv2.specs.Encode.{planParts, superframeEndValues}
+use Rattle.s2xv2.specs.declared.option.OptionU32.the-variants as O32
+use Rattle.flat.specs.Input.{blockIn}
+use Rattle.flat.specs.declared.types.FlatSuperframe.{FlatSuperframe}
 use Rattle.writer.specs.Bytes.{blockBytes}
-use Rattle.s2xv2.specs.declared.superframe.S2Xv2Superframe.{S2Xv2Superframe}
 use Rattle.s2xv2.proofs.Whole.{whole-plan}
 use Rattle.s2xv2.proofs.Lists.{narrow}
-use Rattle.writer.proofs.Laws.{length-alone, alone-append}
+use Rattle.writer.proofs.Laws.{length-alone, alone-append, plan-same}
 use borrow.Author.Needs.{needs}
 use Rattle.writer.proofs.parts.put_block.Statement.{statement}
 use Rattle.writer.proofs.parts.put_block.Tie as tie
 
-abbrev plan : S2Xv2Superframe → List Part
-plan f = planParts (f .«beam_hopping_time_plan_selector») (f .«beamhopping_time_plan_id»)
+abbrev plan : FlatSuperframe → List Part
+plan f = planParts (isOne (f .«beam_hopping_time_plan_selector»)) (O32.Some (f .«beamhopping_time_plan_id»))
 
-abbrev last : S2Xv2Superframe → List Part
-last f = T.superframeEnd ⦂ superframeEndValues f ∷ []
+abbrev last : FlatSuperframe → List Part
+last f = T.superframeEnd ⦂ superframeEndValues (blockIn f) ∷ []
 
 block-bytes-requires : tie.Need-block-bytes-requires
 block-bytes-requires c κs = search needs
 
 last-byte-requires : tie.Need-last-byte-requires
-last-byte-requires c κs = (narrow 5 _ (c .before .before .pre .1 .1 .1 .1 .1 .1 .1 .0), narrow 3 _ (c .before .before .pre .1 .1 .1 .1 .1 .1 .1 .1 .0))
+last-byte-requires c κs = search needs
 
 slice-aggregate-copy : tie.Need-slice-aggregate-copy
 slice-aggregate-copy c = search needs
 
 copy-requires : tie.Need-copy-requires
-copy-requires c κs = omega (arith, sizes-append (plan (c .before .before .before .before .before .args .f)) (last (c .before .before .before .before .before .args .f)), c .before .before .before .before .before .pre .0)
+copy-requires c κs = search needs
 
 add-put-plan : tie.Need-add-put-plan
-add-put-plan c = omega (arith, sizes-append (plan (c .before .before .before .before .before .before .before .before .before .args .f)) (last (c .before .before .before .before .before .before .before .before .before .args .f)), c .before .before .before .before .before .before .before .before .before .pre .0, c .before .before .before .copy .kept .0)
+add-put-plan c = search needs
 
 put-plan-requires : tie.Need-put-plan-requires
-put-plan-requires c κs = omega (arith, sizes-append (plan (c .before .before .before .before .before .before .before .before .before .args .f)) (last (c .before .before .before .before .before .before .before .before .before .args .f)), c .before .before .before .before .before .before .before .before .before .pre .0, c .before .before .before .copy .kept .0)
+put-plan-requires c κs = omega (arith, sizes-append (plan (c .before .before .before .before .before .before .before .before .before .args .f)) (last (c .before .before .before .before .before .before .before .before .before .args .f)), rw (plan-same (c .before .before .before .before .before .before .before .before .before .args .f) (c .before .before .before .before .before .before .before .before .before .pre .1 .1)) at (c .before .before .before .before .before .before .before .before .before .pre .0), c .before .before .before .copy .kept .0)
 
 put-requires : tie.Need-put-requires
-put-requires c κs = omega (arith, sizes-append (plan (c .before .before .before .before .before .before .before .before .before .before .before .before .before .args .f)) (last (c .before .before .before .before .before .before .before .before .before .before .before .before .before .args .f)), c .before .before .before .before .before .before .before .before .before .before .before .before .before .pre .0, c .before .before .before .put-plan .kept .0, c .before .before .before .before .before .before .before .copy .kept .0, c .before .before .before .put-plan .ensures .0)
+put-requires c κs = omega (arith, sizes-append (plan (c .before .before .before .before .before .before .before .before .before .before .before .before .before .args .f)) (last (c .before .before .before .before .before .before .before .before .before .before .before .before .before .args .f)), rw (plan-same (c .before .before .before .before .before .before .before .before .before .before .before .before .before .args .f) (c .before .before .before .before .before .before .before .before .before .before .before .before .before .pre .1 .1)) at (c .before .before .before .before .before .before .before .before .before .before .before .before .before .pre .0), c .before .before .before .put-plan .kept .0, c .before .before .before .before .before .before .before .copy .kept .0, c .before .before .before .put-plan .ensures .0)
 
 add-result : tie.Need-add-result
-add-result c = omega (arith, sizes-append (plan (c .before .before .before .before .before .before .before .before .before .before .before .before .before .before .before .before .args .f)) (last (c .before .before .before .before .before .before .before .before .before .before .before .before .before .before .before .before .args .f)), c .before .before .before .before .before .before .before .before .before .before .before .before .before .before .before .before .pre .0, c .before .before .put .kept .0, c .before .before .before .before .before .before .put-plan .kept .0, c .before .before .before .before .before .before .before .before .before .before .copy .kept .0, c .before .before .before .before .before .before .put-plan .ensures .0, c .before .before .before .before .before .before .before .before .before .before .before .before .before .before .before .before .good)
+add-result c = omega (arith, sizes-append (plan (c .before .before .before .before .before .before .before .before .before .before .before .before .before .before .before .before .args .f)) (last (c .before .before .before .before .before .before .before .before .before .before .before .before .before .before .before .before .args .f)), rw (plan-same (c .before .before .before .before .before .before .before .before .before .before .before .before .before .before .before .before .args .f) (c .before .before .before .before .before .before .before .before .before .before .before .before .before .before .before .before .pre .1 .1)) at (c .before .before .before .before .before .before .before .before .before .before .before .before .before .before .before .before .pre .0), c .before .before .put .kept .0, c .before .before .before .before .before .before .put-plan .kept .0, c .before .before .before .before .before .before .before .before .before .before .copy .kept .0, c .before .before .before .before .before .before .put-plan .ensures .0, c .before .before .before .before .before .before .before .before .before .before .before .before .before .before .before .before .good)
 
 same-length : tie.Need-same-length
 same-length c = search needs
@@ -59,10 +62,11 @@ returns c =
     let e₁ = rw (c .before .before .before .before .before .before .before .before .before .before .before .before .before .before .block-bytes .ensures) at (c .before .before .before .before .before .before .before .before .before .before .copy .ensures) in
     let e₂ = c .before .before .before .before .before .before .put-plan .ensures in
     let e₃ = rw (c .before .before .before .before .before .before .before .before .before .before .before .before .before .last-byte .ensures) at (c .before .before .put .ensures) in
-    let d = length-alone (plan f) (whole-plan (f .«beam_hopping_time_plan_selector») (f .«beamhopping_time_plan_id»)) in (
+    let d = length-alone (plan f) (whole-plan (isOne (f .«beam_hopping_time_plan_selector»)) (O32.Some (f .«beamhopping_time_plan_id»))) in
+    rw (plan-same f (c .before .before .before .before .before .before .before .before .before .before .before .before .before .before .before .before .pre .1 .1)) (
       omega (arith, e₂ .0, sizes-append (plan f) (last f)),
       run _ _ _ _ _ e₁ (run _ _ _ _ _ (e₂ .1) e₃ (omega (arith, e₂ .0, d))) refl
-          ∙ ap (λ (l : List ℕ). stored (now (c .before .before .before .before .before .before .before .before .before .before .before .before .before .before .before .before .args .buf)) (c .before .before .before .before .before .before .before .before .before .before .before .before .before .before .before .before .args .p) (blockBytes f ++ l)) (sym (alone-append (plan f) (last f))),
+          ∙ ap (λ (l : List ℕ). stored (now (c .before .before .before .before .before .before .before .before .before .before .before .before .before .before .before .before .args .buf)) (c .before .before .before .before .before .before .before .before .before .before .before .before .before .before .before .before .args .p) (blockBytes (blockIn f) ++ l)) (sym (alone-append (plan f) (last f))),
     )
 
 pub put-block-spec : {M : Type 1} → statement M

@@ -1,32 +1,26 @@
--- `writer::parts::put_scrambling` meets its contract, in each arm.
+-- `writer::parts::put_scrambling` meets its contract: in each case.
 -- Assumes nothing.
-use mathlib.Core.Path.{_≡_, refl, sym, ap, _∙_}
-use Prim.Native.Nat.{ℕ, _+_, _*_}
+use mathlib.Core.Path.{refl, sym, ap, _∙_}
+use Prim.Native.Nat.{ℕ}
 use native.Mathlib.Omega.{arith}
 use native.Mathlib.Nat.{add-zero}
 use denote.Ref.{now}
 use Rattle.wire.specs.Store.{stored}
 use Rattle.wire.specs.Widths.{be}
-use Rattle.s2xv2.specs.Options.{orZero32}
+use borrow.Author.Tests.{eq-eqb, ne-eqb}
 use Rattle.s2xv2.proofs.Lists.{narrow-if}
 use Rattle.s2xv2.specs.Encode.{scramblingParts}
 use borrow.Author.Needs.{needs}
 use Rattle.writer.proofs.parts.put_scrambling.Statement.{statement}
 use Rattle.writer.proofs.parts.put_scrambling.Tie as tie
 
-or-zero-requires : tie.Need-or-zero-requires
-or-zero-requires c κs = search needs
-
 index-word-requires : tie.Need-index-word-requires
-index-word-requires c κs =
-    let b = c .before .before .before .before in
-    let t = c .before .before .if1 .taken in
-    (narrow-if _ 6 _ (b .pre .1 .1) t, rw (c .or-zero .ensures) (narrow-if _ 18 _ (b .pre .1 .0) t))
+index-word-requires c κs = (narrow-if _ 6 _ (c .before .before .before .pre .1 .1) (eq-eqb _ _ (c .before .if1 .taken)), narrow-if _ 18 _ (c .before .before .before .pre .1 .0) (eq-eqb _ _ (c .before .if1 .taken)))
 
 put-24-requires : tie.Need-put-24-requires
 unfolding scramblingParts
 put-24-requires c κs =
-    let h = rw (c .before .before .before .if1 .taken) at (c .before .before .before .before .before .pre .0) in
+    let h = rw (eq-eqb _ _ (c .before .before .if1 .taken)) at (c .before .before .before .before .pre .0) in
     omega arith
 
 add-result : tie.Need-add-result
@@ -37,24 +31,13 @@ same-length c = search needs
 
 returns : tie.Need-returns
 unfolding scramblingParts
-returns c =
-    let a = c .before .before .before .before .before .before .before .before .args in
-    let e : c .before .before .before .index-word .result ≡ a .reserved * 262144 + orZero32 (a .index) =
-    c .before .before .before .index-word .ensures ∙ ap (λ (i : ℕ). a .reserved * 262144 + i) (c .before .before .before .before .or-zero .ensures) in
-    rw (c .before .before .before .before .before .before .if1 .taken) (refl, c .before .before .put-24 .ensures ∙ ap (λ (k : ℕ). stored (now (a .buf)) (a .p) (be 3 k)) e)
+returns c = rw (eq-eqb _ _ (c .before .before .before .before .before .if1 .taken)) (refl, c .before .before .put-24 .ensures ∙ ap (λ (k : ℕ). stored (now (c .before .before .before .before .before .before .before .args .buf)) (c .before .before .before .before .before .before .before .args .p) (be 3 k)) (c .before .before .before .index-word .ensures))
 
 returns-2 : tie.Need-returns-2
 unfolding scramblingParts stored
-returns-2 c = rw (c .if1 .left) (sym (add-zero _), refl)
+returns-2 c = rw (ne-eqb _ _ (c .if1 .left)) (sym (add-zero _), refl)
 
 pub put-scrambling-spec : {M : Type 1} → statement M
 put-scrambling-spec =
     tie.close
-    (tie.spec
-    or-zero-requires
-    index-word-requires
-    put-24-requires
-    add-result
-    same-length
-    returns
-    returns-2)
+    (tie.spec index-word-requires put-24-requires add-result same-length returns returns-2)
