@@ -14,12 +14,14 @@ use s2xv2::record::S2Xv2SatelliteDeliverySystem;
 use s2xv2::superframe::OptionSuperframe;
 use s2xv2::superframe::S2Xv2Superframe;
 
-pub fn is_one(v: u8) -> bool
+// A flag that is set.
+fn is_one(v: u8) -> bool
     ensures { λ r. ⌜ r ≡ isOne v ⌝ }
 {
     v == 1
 }
 
+// The mode of a code: `Reserved` with that code if the flag says so.
 fn mode_in(reserved: u8, code: u8) -> S2Xv2Mode
     ensures { λ r. ⌜ r ≡ modeIn reserved code ⌝ }
 {
@@ -30,7 +32,7 @@ fn mode_in(reserved: u8, code: u8) -> S2Xv2Mode
     }
 }
 
-// A value, if its flag says that it is there.
+// A flag, if another says that it is there.
 fn bool_in(has: u8, v: u8) -> OptionBool
     ensures { λ r. ⌜ r ≡ someBoolIf (isOne has) (isOne v) ⌝ }
 {
@@ -41,6 +43,7 @@ fn bool_in(has: u8, v: u8) -> OptionBool
     }
 }
 
+// A byte, if its flag says that it is there.
 fn u8_in(has: u8, v: u8) -> OptionU8
     ensures { λ r. ⌜ r ≡ some8If (isOne has) v ⌝ }
 {
@@ -51,6 +54,7 @@ fn u8_in(has: u8, v: u8) -> OptionU8
     }
 }
 
+// A number, if its flag says that it is there.
 fn u32_in(has: u8, v: u32) -> OptionU32
     ensures { λ r. ⌜ r ≡ some32If (isOne has) v ⌝ }
 {
@@ -61,6 +65,7 @@ fn u32_in(has: u8, v: u32) -> OptionU32
     }
 }
 
+// The block that is meant.
 fn block_in(f: FlatSuperframe) -> S2Xv2Superframe
     ensures { λ r. ⌜ r ≡ blockIn f ⌝ }
 {
@@ -82,6 +87,7 @@ fn block_in(f: FlatSuperframe) -> S2Xv2Superframe
     }
 }
 
+// The block, if its flag says that it is there.
 fn superframe_in(has: u8, f: FlatSuperframe) -> OptionSuperframe
     ensures { λ r. ⌜ r ≡ someSuperframeIf (isOne has) (blockIn f) ⌝ }
 {

@@ -31,6 +31,7 @@ pub fn answer_of(number: usize, first: usize, second: usize, third: usize) -> Fl
     }
 }
 
+// A refusal: its number, and the numbers that it tells.
 pub fn refusal_out(why: Refusal) -> FlatAnswer
     ensures { λ r. ⌜ r ≡ answerOut (numbers why) ⌝ }
 {
@@ -46,6 +47,7 @@ pub fn refusal_out(why: Refusal) -> FlatAnswer
     }
 }
 
+// An answer: 0 with the result, or the refusal.
 pub fn answer_out(answer: Answer) -> FlatAnswer
     ensures { λ r. ⌜ r ≡ answerOut (told answer) ⌝ }
 {
@@ -70,7 +72,7 @@ pub fn is_reserved(mode: S2Xv2Mode) -> u8
     }
 }
 
-// Whether a value is there, as a flag.
+// Whether a flag is there, as a flag.
 fn has_bool(v: OptionBool) -> u8
     ensures { λ r. ⌜ r ≡ bit (isSomeBool v) ⌝ }
 {
@@ -80,6 +82,7 @@ fn has_bool(v: OptionBool) -> u8
     }
 }
 
+// Whether a byte is there, as a flag.
 fn has_u8(v: OptionU8) -> u8
     ensures { λ r. ⌜ r ≡ bit (isSome8 v) ⌝ }
 {
@@ -89,6 +92,7 @@ fn has_u8(v: OptionU8) -> u8
     }
 }
 
+// Whether a number is there, as a flag.
 fn has_u32(v: OptionU32) -> u8
     ensures { λ r. ⌜ r ≡ bit (isSome32 v) ⌝ }
 {
@@ -98,6 +102,7 @@ fn has_u32(v: OptionU32) -> u8
     }
 }
 
+// Whether a block is there, as a flag.
 fn has_superframe(v: OptionSuperframe) -> u8
     ensures { λ r. ⌜ r ≡ bit (isSomeSuperframe v) ⌝ }
 {
@@ -107,6 +112,7 @@ fn has_superframe(v: OptionSuperframe) -> u8
     }
 }
 
+// A block that is there.
 fn block_out(f: S2Xv2Superframe) -> FlatSuperframe
     ensures { λ r. ⌜ r ≡ superframeOut (OptionSuperframe.Some f) ⌝ }
 {
@@ -150,6 +156,7 @@ pub fn no_block() -> FlatSuperframe
     }
 }
 
+// A block, or zeros in its place.
 fn superframe_out(superframe: OptionSuperframe) -> FlatSuperframe
     ensures { λ r. ⌜ r ≡ superframeOut superframe ⌝ }
 {
@@ -159,6 +166,7 @@ fn superframe_out(superframe: OptionSuperframe) -> FlatSuperframe
     }
 }
 
+// The record, with a flag beside each number that may be absent.
 pub fn record_out(r: S2Xv2SatelliteDeliverySystem) -> FlatRecord
     ensures { λ c. ⌜ c ≡ recordOut r ⌝ }
 {

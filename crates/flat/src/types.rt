@@ -9,6 +9,7 @@ pub struct FlatAnswer {
     pub third: usize,
 }
 
+// A superframe block.
 #[repr(C)]
 pub struct FlatSuperframe {
     pub reference_scrambling_index: u32,

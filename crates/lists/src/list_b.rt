@@ -124,7 +124,7 @@ fn u32_missing(v: OptionU32, set: bool) -> bool
 }
 
 // SFFI, or what is reserved in its place where its selector is clear.
-pub fn nibble(selector: bool, sffi: OptionU8, reserved: u8) -> u8
+fn nibble(selector: bool, sffi: OptionU8, reserved: u8) -> u8
     ensures { λ r. ⌜ r ≡ nibbleOf selector sffi reserved ⌝ }
 {
     if selector { sffi.or_zero() } else { reserved }
