@@ -11,6 +11,7 @@ use s2xv2::option::OptionU32;
 use s2xv2::record::S2Xv2SatelliteDeliverySystem;
 use s2xv2::superframe::OptionSuperframe;
 
+// A number is below another.
 fn below(v: u8, n: u8) -> bool
     ensures { λ r. ⌜ r ≡ ltb v n ⌝ }
 {
@@ -32,13 +33,14 @@ fn is_misnamed(mode: S2Xv2Mode) -> bool
     }
 }
 
+// A flag turned over.
 fn negated(b: bool) -> bool
     ensures { λ r. ⌜ r ≡ not b ⌝ }
 {
     if b { false } else { true }
 }
 
-// A value is there though it should not be, or is not though it should.
+// A byte is there though it should not be, or is not though it should.
 fn u8_differs(v: OptionU8, due: bool) -> bool
     ensures { λ r. ⌜ r ≡ differ (isSome8 v) due ⌝ }
 {
@@ -48,6 +50,7 @@ fn u8_differs(v: OptionU8, due: bool) -> bool
     }
 }
 
+// The same of a flag.
 fn bool_differs(v: OptionBool, due: bool) -> bool
     ensures { λ r. ⌜ r ≡ differ (isSomeBool v) due ⌝ }
 {
@@ -57,6 +60,7 @@ fn bool_differs(v: OptionBool, due: bool) -> bool
     }
 }
 
+// The same of a superframe block.
 fn superframe_differs(v: OptionSuperframe, due: bool) -> bool
     ensures { λ r. ⌜ r ≡ differ (isSomeSuperframe v) due ⌝ }
 {
@@ -66,7 +70,7 @@ fn superframe_differs(v: OptionSuperframe, due: bool) -> bool
     }
 }
 
-// A value is there though its selector is not set.
+// A byte is there though its selector is not set.
 fn u8_stray(v: OptionU8, set: bool) -> bool
     ensures { λ r. ⌜ r ≡ and (isSome8 v) (not set) ⌝ }
 {
@@ -76,6 +80,7 @@ fn u8_stray(v: OptionU8, set: bool) -> bool
     }
 }
 
+// The same of a number.
 fn u32_stray(v: OptionU32, set: bool) -> bool
     ensures { λ r. ⌜ r ≡ and (isSome32 v) (not set) ⌝ }
 {

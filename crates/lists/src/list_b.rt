@@ -65,6 +65,7 @@ fn scrambling_place(selector: OptionBool, reserved: u8, index: OptionU32) -> u8
     }
 }
 
+// The first place of list B that is of an index whose selector is set, or 0.
 fn index_place(index: OptionU32, reserved: u8) -> u8
     ensures { λ p. ⌜ p ≡ firstFrom 10 (not (isSome32 index) ∷ wide 18 (orZero32 index) ∷ wide 6 reserved ∷ []) ⌝ }
 {
@@ -104,7 +105,7 @@ fn bond_place(bond: u8, count: u8, reserved: u8) -> u8
     }
 }
 
-// A value is not there though its selector is set.
+// A byte is not there though its selector is set.
 fn u8_missing(v: OptionU8, set: bool) -> bool
     ensures { λ r. ⌜ r ≡ and set (not (isSome8 v)) ⌝ }
 {
@@ -114,6 +115,7 @@ fn u8_missing(v: OptionU8, set: bool) -> bool
     }
 }
 
+// The same of a number.
 fn u32_missing(v: OptionU32, set: bool) -> bool
     ensures { λ r. ⌜ r ≡ and set (not (isSome32 v)) ⌝ }
 {
@@ -157,6 +159,7 @@ fn block_place(f: S2Xv2Superframe) -> u8
     }
 }
 
+// The same of a block that may be absent.
 fn superframe_place(superframe: OptionSuperframe) -> u8
     ensures { λ p. ⌜ p ≡ firstFrom 15 (superframeB superframe) ⌝ }
 {

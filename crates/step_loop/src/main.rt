@@ -45,6 +45,7 @@ fn tell(s: &[u8]) {
     }
 }
 
+// Begins a job on an empty slot, runs it as often as there is input, and tells what the slot holds.
 fn main() {
     let mut input = [0u8; 64];
     let got = libc::read(STDIN_FILENO, &mut input);

@@ -88,6 +88,7 @@ fn put_all(buf: &mut [u8], c: FlatRecord, tail: &[u8])
         c.scrambling_sequence_index,
     );
     let p3 = parts::put_byte(buf, p2, c.has_timeslice_number, c.timeslice_number);
+    // the place of the last id
     let last = (less_one(c.num_channel_bonds) % 2) as usize;
     let p4 = parts::put_bonds(
         buf,

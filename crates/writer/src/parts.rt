@@ -113,6 +113,7 @@ fn index_word(reserved: u8, index: u32) -> u32
     (reserved as u32) * 262144 + index
 }
 
+// The scrambling sequence index, with what is reserved before it.
 pub(crate) fn put_scrambling(buf: &mut [u8], p: usize, there: u8, reserved: u8, index: u32) -> usize
     requires { ⌜ p + sizes (scramblingParts (isOne there) reserved (O32.Some index)) ≤ length (now buf) ⌝ }
     requires { ⌜ (and (isOne there) (wide 18 index) ≡ false) × (and (isOne there) (wide 6 reserved) ≡ false) ⌝ }
@@ -218,6 +219,7 @@ fn block_bytes(f: FlatSuperframe) -> [u8; 7]
     ]
 }
 
+// The plan id, if its selector is set.
 fn put_plan(buf: &mut [u8], p: usize, there: u8, plan: u32) -> usize
     requires { ⌜ p + sizes (planParts (isOne there) (O32.Some plan)) ≤ length (now buf) ⌝ }
     ensures { λ q. ⌜ (q ≡ p + sizes (planParts (isOne there) (O32.Some plan))) × (now (buf .exit) ≡ stored (now (buf .entry)) p (bytesOf (planParts (isOne there) (O32.Some plan)) [])) ⌝ }
@@ -250,6 +252,7 @@ fn put_block(buf: &mut [u8], p: usize, f: FlatSuperframe) -> usize
     q + 1
 }
 
+// The superframe block, if it is there.
 pub(crate) fn put_superframe(buf: &mut [u8], p: usize, there: u8, f: FlatSuperframe) -> usize
     requires { ⌜ p + sizes (superframeParts (someSuperframeIf (isOne there) (blockIn f))) ≤ length (now buf) ⌝ }
     requires { ⌜ FlaggedBlock f ⌝ }
