@@ -136,6 +136,7 @@ fn block_fits(f: FlatSuperframe) -> bool
     }
 }
 
+// The same of a block that may be absent.
 fn superframe_fits(there: u8, f: FlatSuperframe) -> bool
     ensures { λ r. ⌜ (r ≡ true → SuperframeFits there f) ⌝ }
 {
