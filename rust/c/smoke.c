@@ -1,4 +1,4 @@
-/* Calls each function of s2xv2.h with what it accepts and with what it refuses, with null pointers of length 0 and with flags of 2, as C11 and as C++. Says what is
+/* Calls each function of s2xv2.h with what it accepts and with what it refuses, with null pointers of length 0, with flags of 2 and with forged jobs, as C11 and as C++. Says what is
    wrong, and ends with 1 then. */
 #include "s2xv2.h"
 
@@ -197,6 +197,44 @@ static void steps(void) {
     CHECK(part.place == 21 && part.length == 2);
 }
 
+/* Jobs that no begin gave: accepted exactly if begin and steps could have given their numbers, stepped by value and in place alike; a refused step changes nothing. */
+static void forged(S2xv2Job job, size_t allowance) {
+    const int fair = job.slot_size == 23 && job.descriptor_size >= 21 && job.descriptor_size <= 23 && job.descriptor_size != 22 && job.stores_made <= 25;
+    const size_t left = fair ? 25 - job.stores_made : 0;
+    const size_t due = allowance < left ? allowance : left;
+    uint8_t slot[24];
+    uint8_t other[24];
+    S2xv2Stepped stepped;
+    S2xv2Advanced told_in_place;
+    memset(slot, 0xA5, sizeof slot);
+    memset(other, 0xA5, sizeof other);
+    stepped = s2xv2_step(job, slot, 23, allowance);
+    CHECK(stepped.told.number == (fair ? 0 : S2XV2_OTHER_SIZE) && stepped.told.stores == due && stepped.told.done == (fair && due == left));
+    CHECK(stepped.job.stores_made == job.stores_made + due && slot[23] == 0xA5);
+    CHECK(due > 0 || all(slot, 23, 0xA5));
+    told_in_place = s2xv2_step_in_place(&job, other, 23, allowance);
+    CHECK(told_in_place.number == stepped.told.number && told_in_place.stores == due && told_in_place.done == stepped.told.done);
+    CHECK(job.stores_made == stepped.job.stores_made && job.slot_size == stepped.job.slot_size && job.descriptor_size == stepped.job.descriptor_size);
+    CHECK(memcmp(slot, other, sizeof slot) == 0);
+}
+
+static void forgeries(void) {
+    const size_t numbers[] = {0, 1, 2, 20, 21, 22, 23, 24, 25, 26, 257, 258, SIZE_MAX - 1, SIZE_MAX};
+    const size_t allowances[] = {0, 1, 24, 25, 26, SIZE_MAX};
+    const size_t count = sizeof numbers / sizeof numbers[0];
+    S2xv2Job job = no_job();
+    size_t k, a;
+    memset(job.staged, 0x7F, sizeof job.staged);
+    for (k = 0; k < count * count * count; k++) {
+        for (a = 0; a < sizeof allowances / sizeof allowances[0]; a++) {
+            job.slot_size = numbers[k % count];
+            job.descriptor_size = numbers[k / count % count];
+            job.stores_made = numbers[k / count / count];
+            forged(job, allowances[a]);
+        }
+    }
+}
+
 int main(void) {
     reading();
     writing();
@@ -204,5 +242,6 @@ int main(void) {
     slots();
     begins();
     steps();
+    forgeries();
     return wrong;
 }
