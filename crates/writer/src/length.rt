@@ -8,8 +8,8 @@ ghost use Rattle.s2xv2.specs.Options.{someSuperframeIf};
 ghost use Rattle.s2xv2.specs.Read.{only};
 ghost use Rattle.s2xv2.specs.Encode.{superframeParts, partsOf};
 ghost use Rattle.flat.specs.Input.{blockIn, recordIn};
-ghost use Rattle.checks.specs.Flagged.{FlaggedBlock, Flagged};
-use checks::flag::both;
+ghost use Rattle.writer.specs.Flagged.{FlaggedBlock, Flagged};
+use crate::flag::both;
 use flat::types::FlatRecord;
 use flat::types::FlatSuperframe;
 

@@ -41,14 +41,14 @@ unfolding encodedLength
 put-scrambling-requires c κs =
     let r = recordIn (c .before .before .before .before .before .before .before .before .before .before .before .before .args .t2) in
     let b = clear-right (coreB r) (scramblingB r ++ (bondB r ++ superframeB (r .superframe))) (c .before .before .before .before .before .before .before .before .before .before .before .before .pre .1 .1) in
-    rw (scrambling-same (c .before .before .before .before .before .before .before .before .before .before .before .before .args .t2) _ (c .before .both .ensures (c .before .before .before .before .before .before .before .before .before .before .before .before .pre .1 .0 .scrambled) (c .before .before .before .before .before .before .before .before .before .before .before .before .pre .1 .0 .selector) .0) (b .0, (b .1 .0, (b .1 .1 .0, tt)))) (omega (arith, parts-split r, c .before .before .before .before .before .before .before .before .before .before .before .before .pre .0, c .before .before .before .before .before .before .before .before .put-core .kept .0, c .before .before .before .before .put-byte .kept .0, c .before .before .before .before .put-byte .ensures .0), scrambling-narrow (c .before .before .before .before .before .before .before .before .before .before .before .before .args .t2) _ (c .before .both .ensures (c .before .before .before .before .before .before .before .before .before .before .before .before .pre .1 .0 .scrambled) (c .before .before .before .before .before .before .before .before .before .before .before .before .pre .1 .0 .selector) .0) (b .0, (b .1 .0, (b .1 .1 .0, tt))))
+    rw (scrambling-same (c .before .before .before .before .before .before .before .before .before .before .before .before .args .t2) _ (c .before .both .ensures .0) (b .0, (b .1 .0, (b .1 .1 .0, tt)))) (omega (arith, parts-split r, c .before .before .before .before .before .before .before .before .before .before .before .before .pre .0, c .before .before .before .before .before .before .before .before .put-core .kept .0, c .before .before .before .before .put-byte .kept .0, c .before .before .before .before .put-byte .ensures .0), scrambling-narrow (c .before .before .before .before .before .before .before .before .before .before .before .before .args .t2) _ (c .before .both .ensures .0) (b .0, (b .1 .0, (b .1 .1 .0, tt))))
 
 put-byte-requires-2 : tie.Need-put-byte-requires-2
 unfolding encodedLength
 put-byte-requires-2 c κs =
     let r = recordIn (c .before .before .before .before .before .before .before .before .before .before .before .before .before .before .before .before .args .t2) in
     let b = clear-right (coreB r) (scramblingB r ++ (bondB r ++ superframeB (r .superframe))) (c .before .before .before .before .before .before .before .before .before .before .before .before .before .before .before .before .pre .1 .1) in
-    omega (arith, parts-split r, c .before .before .before .before .before .before .before .before .before .before .before .before .before .before .before .before .pre .0, c .before .before .before .before .before .before .before .before .before .before .before .before .put-core .kept .0, c .before .before .before .before .before .before .before .before .put-byte .kept .0, c .before .before .before .before .before .before .before .before .put-byte .ensures .0, c .before .before .before .put-scrambling .kept .0, rw (scrambling-same (c .before .before .before .before .before .before .before .before .before .before .before .before .before .before .before .before .args .t2) _ (c .before .before .before .before .before .both .ensures (c .before .before .before .before .before .before .before .before .before .before .before .before .before .before .before .before .pre .1 .0 .scrambled) (c .before .before .before .before .before .before .before .before .before .before .before .before .before .before .before .before .pre .1 .0 .selector) .0) (b .0, (b .1 .0, (b .1 .1 .0, tt)))) at (c .before .before .before .put-scrambling .ensures .0))
+    omega (arith, parts-split r, c .before .before .before .before .before .before .before .before .before .before .before .before .before .before .before .before .pre .0, c .before .before .before .before .before .before .before .before .before .before .before .before .put-core .kept .0, c .before .before .before .before .before .before .before .before .put-byte .kept .0, c .before .before .before .before .before .before .before .before .put-byte .ensures .0, c .before .before .before .put-scrambling .kept .0, rw (scrambling-same (c .before .before .before .before .before .before .before .before .before .before .before .before .before .before .before .before .args .t2) _ (c .before .before .before .before .before .both .ensures .0) (b .0, (b .1 .0, (b .1 .1 .0, tt)))) at (c .before .before .before .put-scrambling .ensures .0))
 
 less-one-requires : tie.Need-less-one-requires
 less-one-requires c κs = search needs
@@ -70,21 +70,21 @@ unfolding encodedLength
 put-bonds-requires c κs =
     let r = recordIn (c .before .before .before .before .before .before .before .before .before .before .before .before .before .before .before .before .before .before .before .before .before .before .before .args .t2) in
     let b = clear-right (coreB r) (scramblingB r ++ (bondB r ++ superframeB (r .superframe))) (c .before .before .before .before .before .before .before .before .before .before .before .before .before .before .before .before .before .before .before .before .before .before .before .pre .1 .1) in
-    (rw (bonds-same (eqb (c .before .before .before .before .before .before .before .before .before .before .before .before .before .before .before .before .before .before .before .before .before .before .before .args .t2 .«channel_bond») 1) (c .before .before .before .before .before .before .before .before .before .before .before .before .before .before .before .before .before .before .before .before .before .before .before .args .t2 .«reserved_zero_future_use_7») (c .before .before .before .before .before .before .before .before .before .before .before .before .before .before .before .before .before .before .before .before .before .before .before .args .t2 .«num_channel_bonds») _ (c .before .before .before .before .before .before .before .before .before .before .before .before .before .before .before .before .before .before .before .before .before .before .before .args .t2 .«secondary_delivery_system_ids») (ap (λ (k : ℕ). k % 2) (c .before .before .before .less-one .ensures)) (b .1 .1 .1 .0)) (omega (arith, parts-split r, c .before .before .before .before .before .before .before .before .before .before .before .before .before .before .before .before .before .before .before .before .before .before .before .pre .0, c .before .before .before .before .before .before .before .before .before .before .before .before .before .before .before .before .before .before .before .put-core .kept .0, c .before .before .before .before .before .before .before .before .before .before .before .before .before .before .before .put-byte .kept .0, c .before .before .before .before .before .before .before .before .before .before .before .before .before .before .before .put-byte .ensures .0, c .before .before .before .before .before .before .before .before .before .before .put-scrambling .kept .0, rw (scrambling-same (c .before .before .before .before .before .before .before .before .before .before .before .before .before .before .before .before .before .before .before .before .before .before .before .args .t2) _ (c .before .before .before .before .before .before .before .before .before .before .before .before .both .ensures (c .before .before .before .before .before .before .before .before .before .before .before .before .before .before .before .before .before .before .before .before .before .before .before .pre .1 .0 .scrambled) (c .before .before .before .before .before .before .before .before .before .before .before .before .before .before .before .before .before .before .before .before .before .before .before .pre .1 .0 .selector) .0) (b .0, (b .1 .0, (b .1 .1 .0, tt)))) at (c .before .before .before .before .before .before .before .before .before .before .put-scrambling .ensures .0), c .before .before .before .before .before .before .put-byte2 .kept .0, c .before .before .before .before .before .before .put-byte2 .ensures .0)), (b .1 .1 .1 .0, b .1 .1 .1 .1 .0))
+    (rw (bonds-same (eqb (c .before .before .before .before .before .before .before .before .before .before .before .before .before .before .before .before .before .before .before .before .before .before .before .args .t2 .«channel_bond») 1) (c .before .before .before .before .before .before .before .before .before .before .before .before .before .before .before .before .before .before .before .before .before .before .before .args .t2 .«reserved_zero_future_use_7») (c .before .before .before .before .before .before .before .before .before .before .before .before .before .before .before .before .before .before .before .before .before .before .before .args .t2 .«num_channel_bonds») _ (c .before .before .before .before .before .before .before .before .before .before .before .before .before .before .before .before .before .before .before .before .before .before .before .args .t2 .«secondary_delivery_system_ids») (ap (λ (k : ℕ). k % 2) (c .before .before .before .less-one .ensures)) (b .1 .1 .1 .0)) (omega (arith, parts-split r, c .before .before .before .before .before .before .before .before .before .before .before .before .before .before .before .before .before .before .before .before .before .before .before .pre .0, c .before .before .before .before .before .before .before .before .before .before .before .before .before .before .before .before .before .before .before .put-core .kept .0, c .before .before .before .before .before .before .before .before .before .before .before .before .before .before .before .put-byte .kept .0, c .before .before .before .before .before .before .before .before .before .before .before .before .before .before .before .put-byte .ensures .0, c .before .before .before .before .before .before .before .before .before .before .put-scrambling .kept .0, rw (scrambling-same (c .before .before .before .before .before .before .before .before .before .before .before .before .before .before .before .before .before .before .before .before .before .before .before .args .t2) _ (c .before .before .before .before .before .before .before .before .before .before .before .before .both .ensures .0) (b .0, (b .1 .0, (b .1 .1 .0, tt)))) at (c .before .before .before .before .before .before .before .before .before .before .put-scrambling .ensures .0), c .before .before .before .before .before .before .put-byte2 .kept .0, c .before .before .before .before .before .before .put-byte2 .ensures .0)), (b .1 .1 .1 .0, b .1 .1 .1 .1 .0))
 
 put-superframe-requires : tie.Need-put-superframe-requires
 unfolding encodedLength
 put-superframe-requires c κs =
     let r = recordIn (c .before .before .before .before .before .before .before .before .before .before .before .before .before .before .before .before .before .before .before .before .before .before .before .before .before .before .before .before .args .t2) in
     let b = clear-right (coreB r) (scramblingB r ++ (bondB r ++ superframeB (r .superframe))) (c .before .before .before .before .before .before .before .before .before .before .before .before .before .before .before .before .before .before .before .before .before .before .before .before .before .before .before .before .pre .1 .1) in
-    (omega (arith, parts-split r, c .before .before .before .before .before .before .before .before .before .before .before .before .before .before .before .before .before .before .before .before .before .before .before .before .before .before .before .before .pre .0, c .before .before .before .before .before .before .before .before .before .before .before .before .before .before .before .before .before .before .before .before .before .before .before .before .put-core .kept .0, c .before .before .before .before .before .before .before .before .before .before .before .before .before .before .before .before .before .before .before .before .put-byte .kept .0, c .before .before .before .before .before .before .before .before .before .before .before .before .before .before .before .before .before .before .before .before .put-byte .ensures .0, c .before .before .before .before .before .before .before .before .before .before .before .before .before .before .before .put-scrambling .kept .0, rw (scrambling-same (c .before .before .before .before .before .before .before .before .before .before .before .before .before .before .before .before .before .before .before .before .before .before .before .before .before .before .before .before .args .t2) _ (c .before .before .before .before .before .before .before .before .before .before .before .before .before .before .before .before .before .both .ensures (c .before .before .before .before .before .before .before .before .before .before .before .before .before .before .before .before .before .before .before .before .before .before .before .before .before .before .before .before .pre .1 .0 .scrambled) (c .before .before .before .before .before .before .before .before .before .before .before .before .before .before .before .before .before .before .before .before .before .before .before .before .before .before .before .before .pre .1 .0 .selector) .0) (b .0, (b .1 .0, (b .1 .1 .0, tt)))) at (c .before .before .before .before .before .before .before .before .before .before .before .before .before .before .before .put-scrambling .ensures .0), c .before .before .before .before .before .before .before .before .before .before .before .put-byte2 .kept .0, c .before .before .before .before .before .before .before .before .before .before .before .put-byte2 .ensures .0, c .before .before .before .before .put-bonds .kept .0, rw (bonds-same (eqb (c .before .before .before .before .before .before .before .before .before .before .before .before .before .before .before .before .before .before .before .before .before .before .before .before .before .before .before .before .args .t2 .«channel_bond») 1) (c .before .before .before .before .before .before .before .before .before .before .before .before .before .before .before .before .before .before .before .before .before .before .before .before .before .before .before .before .args .t2 .«reserved_zero_future_use_7») (c .before .before .before .before .before .before .before .before .before .before .before .before .before .before .before .before .before .before .before .before .before .before .before .before .before .before .before .before .args .t2 .«num_channel_bonds») _ (c .before .before .before .before .before .before .before .before .before .before .before .before .before .before .before .before .before .before .before .before .before .before .before .before .before .before .before .before .args .t2 .«secondary_delivery_system_ids») (ap (λ (k : ℕ). k % 2) (c .before .before .before .before .before .before .before .before .less-one .ensures)) (b .1 .1 .1 .0)) at (c .before .before .before .before .put-bonds .ensures .0)), (c .before .before .before .before .before .before .before .before .before .before .before .before .before .before .before .before .before .before .before .before .before .before .before .before .before .before .before .before .pre .1 .0 .block, b .1 .1 .1 .1 .1))
+    (omega (arith, parts-split r, c .before .before .before .before .before .before .before .before .before .before .before .before .before .before .before .before .before .before .before .before .before .before .before .before .before .before .before .before .pre .0, c .before .before .before .before .before .before .before .before .before .before .before .before .before .before .before .before .before .before .before .before .before .before .before .before .put-core .kept .0, c .before .before .before .before .before .before .before .before .before .before .before .before .before .before .before .before .before .before .before .before .put-byte .kept .0, c .before .before .before .before .before .before .before .before .before .before .before .before .before .before .before .before .before .before .before .before .put-byte .ensures .0, c .before .before .before .before .before .before .before .before .before .before .before .before .before .before .before .put-scrambling .kept .0, rw (scrambling-same (c .before .before .before .before .before .before .before .before .before .before .before .before .before .before .before .before .before .before .before .before .before .before .before .before .before .before .before .before .args .t2) _ (c .before .before .before .before .before .before .before .before .before .before .before .before .before .before .before .before .before .both .ensures .0) (b .0, (b .1 .0, (b .1 .1 .0, tt)))) at (c .before .before .before .before .before .before .before .before .before .before .before .before .before .before .before .put-scrambling .ensures .0), c .before .before .before .before .before .before .before .before .before .before .before .put-byte2 .kept .0, c .before .before .before .before .before .before .before .before .before .before .before .put-byte2 .ensures .0, c .before .before .before .before .put-bonds .kept .0, rw (bonds-same (eqb (c .before .before .before .before .before .before .before .before .before .before .before .before .before .before .before .before .before .before .before .before .before .before .before .before .before .before .before .before .args .t2 .«channel_bond») 1) (c .before .before .before .before .before .before .before .before .before .before .before .before .before .before .before .before .before .before .before .before .before .before .before .before .before .before .before .before .args .t2 .«reserved_zero_future_use_7») (c .before .before .before .before .before .before .before .before .before .before .before .before .before .before .before .before .before .before .before .before .before .before .before .before .before .before .before .before .args .t2 .«num_channel_bonds») _ (c .before .before .before .before .before .before .before .before .before .before .before .before .before .before .before .before .before .before .before .before .before .before .before .before .before .before .before .before .args .t2 .«secondary_delivery_system_ids») (ap (λ (k : ℕ). k % 2) (c .before .before .before .before .before .before .before .before .less-one .ensures)) (b .1 .1 .1 .0)) at (c .before .before .before .before .put-bonds .ensures .0)), (c .before .before .before .before .before .before .before .before .before .before .before .before .before .before .before .before .before .before .before .before .before .before .before .before .before .before .before .before .pre .1 .0 .block, b .1 .1 .1 .1 .1))
 
 copy-requires : tie.Need-copy-requires
 unfolding encodedLength
 copy-requires c κs =
     let r = recordIn (c .before .before .before .before .before .before .before .before .before .before .before .before .before .before .before .before .before .before .before .before .before .before .before .before .before .before .before .before .before .before .before .before .args .t2) in
     let b = clear-right (coreB r) (scramblingB r ++ (bondB r ++ superframeB (r .superframe))) (c .before .before .before .before .before .before .before .before .before .before .before .before .before .before .before .before .before .before .before .before .before .before .before .before .before .before .before .before .before .before .before .before .pre .1 .1) in
-    omega (arith, parts-split r, c .before .before .before .before .before .before .before .before .before .before .before .before .before .before .before .before .before .before .before .before .before .before .before .before .before .before .before .before .before .before .before .before .pre .0, c .before .before .before .before .before .before .before .before .before .before .before .before .before .before .before .before .before .before .before .before .before .before .before .before .before .before .before .before .put-core .kept .0, c .before .before .before .before .before .before .before .before .before .before .before .before .before .before .before .before .before .before .before .before .before .before .before .before .put-byte .kept .0, c .before .before .before .before .before .before .before .before .before .before .before .before .before .before .before .before .before .before .before .before .before .before .before .before .put-byte .ensures .0, c .before .before .before .before .before .before .before .before .before .before .before .before .before .before .before .before .before .before .before .put-scrambling .kept .0, rw (scrambling-same (c .before .before .before .before .before .before .before .before .before .before .before .before .before .before .before .before .before .before .before .before .before .before .before .before .before .before .before .before .before .before .before .before .args .t2) _ (c .before .before .before .before .before .before .before .before .before .before .before .before .before .before .before .before .before .before .before .before .before .both .ensures (c .before .before .before .before .before .before .before .before .before .before .before .before .before .before .before .before .before .before .before .before .before .before .before .before .before .before .before .before .before .before .before .before .pre .1 .0 .scrambled) (c .before .before .before .before .before .before .before .before .before .before .before .before .before .before .before .before .before .before .before .before .before .before .before .before .before .before .before .before .before .before .before .before .pre .1 .0 .selector) .0) (b .0, (b .1 .0, (b .1 .1 .0, tt)))) at (c .before .before .before .before .before .before .before .before .before .before .before .before .before .before .before .before .before .before .before .put-scrambling .ensures .0), c .before .before .before .before .before .before .before .before .before .before .before .before .before .before .before .put-byte2 .kept .0, c .before .before .before .before .before .before .before .before .before .before .before .before .before .before .before .put-byte2 .ensures .0, c .before .before .before .before .before .before .before .before .put-bonds .kept .0, rw (bonds-same (eqb (c .before .before .before .before .before .before .before .before .before .before .before .before .before .before .before .before .before .before .before .before .before .before .before .before .before .before .before .before .before .before .before .before .args .t2 .«channel_bond») 1) (c .before .before .before .before .before .before .before .before .before .before .before .before .before .before .before .before .before .before .before .before .before .before .before .before .before .before .before .before .before .before .before .before .args .t2 .«reserved_zero_future_use_7») (c .before .before .before .before .before .before .before .before .before .before .before .before .before .before .before .before .before .before .before .before .before .before .before .before .before .before .before .before .before .before .before .before .args .t2 .«num_channel_bonds») _ (c .before .before .before .before .before .before .before .before .before .before .before .before .before .before .before .before .before .before .before .before .before .before .before .before .before .before .before .before .before .before .before .before .args .t2 .«secondary_delivery_system_ids») (ap (λ (k : ℕ). k % 2) (c .before .before .before .before .before .before .before .before .before .before .before .before .less-one .ensures)) (b .1 .1 .1 .0)) at (c .before .before .before .before .before .before .before .before .put-bonds .ensures .0), c .before .before .before .put-superframe .kept .0, c .before .before .before .put-superframe .ensures .0)
+    omega (arith, parts-split r, c .before .before .before .before .before .before .before .before .before .before .before .before .before .before .before .before .before .before .before .before .before .before .before .before .before .before .before .before .before .before .before .before .pre .0, c .before .before .before .before .before .before .before .before .before .before .before .before .before .before .before .before .before .before .before .before .before .before .before .before .before .before .before .before .put-core .kept .0, c .before .before .before .before .before .before .before .before .before .before .before .before .before .before .before .before .before .before .before .before .before .before .before .before .put-byte .kept .0, c .before .before .before .before .before .before .before .before .before .before .before .before .before .before .before .before .before .before .before .before .before .before .before .before .put-byte .ensures .0, c .before .before .before .before .before .before .before .before .before .before .before .before .before .before .before .before .before .before .before .put-scrambling .kept .0, rw (scrambling-same (c .before .before .before .before .before .before .before .before .before .before .before .before .before .before .before .before .before .before .before .before .before .before .before .before .before .before .before .before .before .before .before .before .args .t2) _ (c .before .before .before .before .before .before .before .before .before .before .before .before .before .before .before .before .before .before .before .before .before .both .ensures .0) (b .0, (b .1 .0, (b .1 .1 .0, tt)))) at (c .before .before .before .before .before .before .before .before .before .before .before .before .before .before .before .before .before .before .before .put-scrambling .ensures .0), c .before .before .before .before .before .before .before .before .before .before .before .before .before .before .before .put-byte2 .kept .0, c .before .before .before .before .before .before .before .before .before .before .before .before .before .before .before .put-byte2 .ensures .0, c .before .before .before .before .before .before .before .before .put-bonds .kept .0, rw (bonds-same (eqb (c .before .before .before .before .before .before .before .before .before .before .before .before .before .before .before .before .before .before .before .before .before .before .before .before .before .before .before .before .before .before .before .before .args .t2 .«channel_bond») 1) (c .before .before .before .before .before .before .before .before .before .before .before .before .before .before .before .before .before .before .before .before .before .before .before .before .before .before .before .before .before .before .before .before .args .t2 .«reserved_zero_future_use_7») (c .before .before .before .before .before .before .before .before .before .before .before .before .before .before .before .before .before .before .before .before .before .before .before .before .before .before .before .before .before .before .before .before .args .t2 .«num_channel_bonds») _ (c .before .before .before .before .before .before .before .before .before .before .before .before .before .before .before .before .before .before .before .before .before .before .before .before .before .before .before .before .before .before .before .before .args .t2 .«secondary_delivery_system_ids») (ap (λ (k : ℕ). k % 2) (c .before .before .before .before .before .before .before .before .before .before .before .before .less-one .ensures)) (b .1 .1 .1 .0)) at (c .before .before .before .before .before .before .before .before .put-bonds .ensures .0), c .before .before .before .put-superframe .kept .0, c .before .before .before .put-superframe .ensures .0)
 
 same-length : tie.Need-same-length
 same-length c = omega (arith, c .before .before .before .before .before .before .before .before .before .before .before .before .before .before .before .before .before .before .before .before .before .before .before .before .before .before .before .before .before .before .before .put-core .kept .0, c .before .before .before .before .before .before .before .before .before .before .before .before .before .before .before .before .before .before .before .before .before .before .before .before .before .before .before .put-byte .kept .0, c .before .before .before .before .before .before .before .before .before .before .before .before .before .before .before .before .before .before .before .before .before .before .put-scrambling .kept .0, c .before .before .before .before .before .before .before .before .before .before .before .before .before .before .before .before .before .before .put-byte2 .kept .0, c .before .before .before .before .before .before .before .before .before .before .before .put-bonds .kept .0, c .before .before .before .before .before .before .put-superframe .kept .0, c .before .before .copy .kept .0)
@@ -97,7 +97,7 @@ returns c =
     let t = now (a .tail) in
     let e₁ = c .before .before .before .before .before .before .before .before .before .before .before .before .before .before .before .before .before .before .before .before .before .before .before .before .before .before .before .before .before .before .before .put-core .ensures in
     let e₂ = c .before .before .before .before .before .before .before .before .before .before .before .before .before .before .before .before .before .before .before .before .before .before .before .before .before .before .before .put-byte .ensures in
-    let e₃ = rw (scrambling-same (c .before .before .before .before .before .before .before .before .before .before .before .before .before .before .before .before .before .before .before .before .before .before .before .before .before .before .before .before .before .before .before .before .before .before .before .args .t2) _ (c .before .before .before .before .before .before .before .before .before .before .before .before .before .before .before .before .before .before .before .before .before .before .before .before .both .ensures (c .before .before .before .before .before .before .before .before .before .before .before .before .before .before .before .before .before .before .before .before .before .before .before .before .before .before .before .before .before .before .before .before .before .before .before .pre .1 .0 .scrambled) (c .before .before .before .before .before .before .before .before .before .before .before .before .before .before .before .before .before .before .before .before .before .before .before .before .before .before .before .before .before .before .before .before .before .before .before .pre .1 .0 .selector) .0) (b .0, (b .1 .0, (b .1 .1 .0, tt)))) at (c .before .before .before .before .before .before .before .before .before .before .before .before .before .before .before .before .before .before .before .before .before .before .put-scrambling .ensures) in
+    let e₃ = rw (scrambling-same (c .before .before .before .before .before .before .before .before .before .before .before .before .before .before .before .before .before .before .before .before .before .before .before .before .before .before .before .before .before .before .before .before .before .before .before .args .t2) _ (c .before .before .before .before .before .before .before .before .before .before .before .before .before .before .before .before .before .before .before .before .before .before .before .before .both .ensures .0) (b .0, (b .1 .0, (b .1 .1 .0, tt)))) at (c .before .before .before .before .before .before .before .before .before .before .before .before .before .before .before .before .before .before .before .before .before .before .put-scrambling .ensures) in
     let e₄ = c .before .before .before .before .before .before .before .before .before .before .before .before .before .before .before .before .before .before .put-byte2 .ensures in
     let e₅ = rw (bonds-same (eqb (c .before .before .before .before .before .before .before .before .before .before .before .before .before .before .before .before .before .before .before .before .before .before .before .before .before .before .before .before .before .before .before .before .before .before .before .args .t2 .«channel_bond») 1) (c .before .before .before .before .before .before .before .before .before .before .before .before .before .before .before .before .before .before .before .before .before .before .before .before .before .before .before .before .before .before .before .before .before .before .before .args .t2 .«reserved_zero_future_use_7») (c .before .before .before .before .before .before .before .before .before .before .before .before .before .before .before .before .before .before .before .before .before .before .before .before .before .before .before .before .before .before .before .before .before .before .before .args .t2 .«num_channel_bonds») _ (c .before .before .before .before .before .before .before .before .before .before .before .before .before .before .before .before .before .before .before .before .before .before .before .before .before .before .before .before .before .before .before .before .before .before .before .args .t2 .«secondary_delivery_system_ids») (ap (λ (k : ℕ). k % 2) (c .before .before .before .before .before .before .before .before .before .before .before .before .before .before .before .less-one .ensures)) (b .1 .1 .1 .0)) at (c .before .before .before .before .before .before .before .before .before .before .before .put-bonds .ensures) in
     let e₆ = c .before .before .before .before .before .before .put-superframe .ensures in

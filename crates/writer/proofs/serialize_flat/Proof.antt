@@ -9,7 +9,7 @@ use Rattle.s2xv2.specs.ListB.{listB, unwritable}
 use Rattle.s2xv2.proofs.Lists.{clear-first}
 use Rattle.s2xv2.proofs.Written.{told-written, written-accepted}
 use Rattle.flat.specs.Input.{recordIn}
-use Rattle.checks.proofs.Flags.{flagged}
+use Rattle.writer.proofs.Flags.{flagged}
 use borrow.Author.Needs.{needs}
 use Rattle.writer.proofs.serialize_flat.Statement.{statement}
 use Rattle.writer.proofs.serialize_flat.Tie as tie

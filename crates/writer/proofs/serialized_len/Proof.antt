@@ -6,7 +6,7 @@ use Rattle.s2xv2.specs.Length.{lengthTold}
 use Rattle.s2xv2.specs.declared.record.S2Xv2SatelliteDeliverySystem.{S2Xv2SatelliteDeliverySystem}
 use Rattle.flat.specs.Input.{recordIn}
 use Rattle.flat.proofs.Back.{back, out-valid}
-use Rattle.checks.proofs.Flags.{flagged}
+use Rattle.writer.proofs.Flags.{flagged}
 use borrow.Author.Needs.{needs}
 use Rattle.writer.proofs.serialized_len.Statement.{statement}
 use Rattle.writer.proofs.serialized_len.Tie as tie

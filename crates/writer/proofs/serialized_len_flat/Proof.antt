@@ -7,7 +7,7 @@ use Rattle.s2xv2.specs.ListA.{inconsistency, listA}
 use Rattle.s2xv2.proofs.Lists.{clear-first}
 use Rattle.s2xv2.proofs.Written.{accepted-length}
 use Rattle.flat.specs.Input.{recordIn}
-use Rattle.checks.proofs.Flags.{flagged}
+use Rattle.writer.proofs.Flags.{flagged}
 use borrow.Author.Needs.{needs}
 use Rattle.writer.proofs.serialized_len_flat.Statement.{statement}
 use Rattle.writer.proofs.serialized_len_flat.Tie as tie

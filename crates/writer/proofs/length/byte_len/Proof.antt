@@ -1,7 +1,7 @@
 -- `writer::length::byte_len` meets its contract: a flag that is 0 or 1 counts for itself.
 -- Assumes nothing.
 use native.Mathlib.Omega.{arith}
-use Rattle.checks.proofs.Flags.{only-bit}
+use Rattle.writer.proofs.Flags.{only-bit}
 use Rattle.writer.proofs.length.byte_len.Statement.{statement}
 use Rattle.writer.proofs.length.byte_len.Tie as tie
 

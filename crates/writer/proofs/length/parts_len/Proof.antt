@@ -4,7 +4,7 @@ use native.Mathlib.Omega.{arith}
 use Rattle.s2xv2.proofs.Whole.{parts-size}
 use Rattle.flat.specs.Input.{recordIn}
 use Rattle.flat.proofs.Back.{is-8, is-selected}
-use Rattle.checks.proofs.Flags.{is-bit}
+use Rattle.writer.proofs.Flags.{is-bit}
 use borrow.Author.Needs.{needs}
 use Rattle.writer.proofs.length.parts_len.Statement.{statement}
 use Rattle.writer.proofs.length.parts_len.Tie as tie
@@ -19,7 +19,7 @@ add-result : tie.Need-add-result
 add-result c = search needs
 
 scrambling-len-requires : tie.Need-scrambling-len-requires
-scrambling-len-requires c κs = c .before .both .ensures (c .before .before .before .pre .scrambled) (c .before .before .before .pre .selector) .1
+scrambling-len-requires c κs = search needs
 
 add-result-2 : tie.Need-add-result-2
 add-result-2 c = search needs
@@ -45,7 +45,7 @@ add-result-5 c = search needs
 returns : tie.Need-returns
 returns c =
     let e = simp (is-8, is-selected) at (parts-size (recordIn (c .before .before .before .before .before .before .before .args .c))) in
-    let k = rw (c .before .before .before .before .before .both .ensures (c .before .before .before .before .before .before .before .pre .scrambled) (c .before .before .before .before .before .before .before .pre .selector) .0, is-bit) at (c .before .before .before .scrambling-len .ensures) in
+    let k = rw (c .before .before .before .before .before .both .ensures .0, is-bit) at (c .before .before .before .scrambling-len .ensures) in
     (omega (arith, c .superframe-len .ensures, c .before .bond-len .ensures, c .before .before .byte-len2 .ensures, k, c .before .before .before .before .byte-len .ensures, e), omega arith)
 
 pub parts-len-spec : {M : Type 1} → statement M

@@ -1,7 +1,7 @@
 -- `writer::length::scrambling_len` meets its contract: a flag that is 0 or 1 counts for itself.
 -- Assumes nothing.
 use native.Mathlib.Omega.{arith}
-use Rattle.checks.proofs.Flags.{only-bit}
+use Rattle.writer.proofs.Flags.{only-bit}
 use borrow.Author.Needs.{needs}
 use Rattle.writer.proofs.length.scrambling_len.Statement.{statement}
 use Rattle.writer.proofs.length.scrambling_len.Tie as tie

@@ -3,7 +3,7 @@
 use native.Mathlib.Omega.{arith}
 use borrow.Author.Tests.{eq-eqb, ne-eqb}
 use Rattle.s2xv2.specs.Encode.{superframeParts}
-use Rattle.checks.proofs.Flags.{block-size}
+use Rattle.writer.proofs.Flags.{block-size}
 use borrow.Author.Needs.{needs}
 use Rattle.writer.proofs.length.superframe_len.Statement.{statement}
 use Rattle.writer.proofs.length.superframe_len.Tie as tie
