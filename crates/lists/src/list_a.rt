@@ -3,20 +3,14 @@ ghost use mathlib.Core.Path.{_≡_};
 ghost use lib.Dec.{eqb, ltb};
 ghost use Rattle.wire.specs.Flags.{and, not, differ};
 ghost use Rattle.s2xv2.specs.Options.{isSomeBool, isSome8, isSome32, isSomeSuperframe};
-ghost use Rattle.s2xv2.specs.ListA.{firstFrom, misnamed, superframeA, inconsistency};
+ghost use Rattle.s2xv2.specs.ListA.{misnamed, inSuperframe, inconsistency};
+use crate::first::first_from;
 use s2xv2::mode::S2Xv2Mode;
 use s2xv2::option::OptionBool;
 use s2xv2::option::OptionU8;
 use s2xv2::option::OptionU32;
 use s2xv2::record::S2Xv2SatelliteDeliverySystem;
 use s2xv2::superframe::OptionSuperframe;
-
-// A number is below another.
-fn below(v: u8, n: u8) -> bool
-    ensures { λ r. ⌜ r ≡ ltb v n ⌝ }
-{
-    v < n
-}
 
 // `Reserved` holds a code that has a variant of its own.
 fn is_misnamed(mode: S2Xv2Mode) -> bool
@@ -29,15 +23,8 @@ fn is_misnamed(mode: S2Xv2Mode) -> bool
         S2Xv2Mode::Reserved3 => false,
         S2Xv2Mode::S2XSuperframe => false,
         S2Xv2Mode::S2XSuperframeTimeSlicing => false,
-        S2Xv2Mode::Reserved(v) => below(v, 6),
+        S2Xv2Mode::Reserved(v) => v < 6,
     }
-}
-
-// A flag turned over.
-fn negated(b: bool) -> bool
-    ensures { λ r. ⌜ r ≡ not b ⌝ }
-{
-    if b { false } else { true }
 }
 
 // A byte is there though it should not be, or is not though it should.
@@ -45,7 +32,7 @@ fn u8_differs(v: OptionU8, due: bool) -> bool
     ensures { λ r. ⌜ r ≡ differ (isSome8 v) due ⌝ }
 {
     match v {
-        OptionU8::Some(_) => negated(due),
+        OptionU8::Some(_) => !due,
         OptionU8::None => due,
     }
 }
@@ -55,7 +42,7 @@ fn bool_differs(v: OptionBool, due: bool) -> bool
     ensures { λ r. ⌜ r ≡ differ (isSomeBool v) due ⌝ }
 {
     match v {
-        OptionBool::Some(_) => negated(due),
+        OptionBool::Some(_) => !due,
         OptionBool::None => due,
     }
 }
@@ -65,7 +52,7 @@ fn superframe_differs(v: OptionSuperframe, due: bool) -> bool
     ensures { λ r. ⌜ r ≡ differ (isSomeSuperframe v) due ⌝ }
 {
     match v {
-        OptionSuperframe::Some(_) => negated(due),
+        OptionSuperframe::Some(_) => !due,
         OptionSuperframe::None => due,
     }
 }
@@ -75,7 +62,7 @@ fn u8_stray(v: OptionU8, set: bool) -> bool
     ensures { λ r. ⌜ r ≡ and (isSome8 v) (not set) ⌝ }
 {
     match v {
-        OptionU8::Some(_) => negated(set),
+        OptionU8::Some(_) => !set,
         OptionU8::None => false,
     }
 }
@@ -85,7 +72,7 @@ fn u32_stray(v: OptionU32, set: bool) -> bool
     ensures { λ r. ⌜ r ≡ and (isSome32 v) (not set) ⌝ }
 {
     match v {
-        OptionU32::Some(_) => negated(set),
+        OptionU32::Some(_) => !set,
         OptionU32::None => false,
     }
 }
@@ -94,26 +81,32 @@ fn u32_stray(v: OptionU32, set: bool) -> bool
 fn bonds_stray(count: u8, bond: u8) -> bool
     ensures { λ r. ⌜ r ≡ and (ltb 0 count) (not (eqb bond 1)) ⌝ }
 {
-    if 0 < count { negated(bond == 1) } else { false }
+    if 0 < count { bond != 1 } else { false }
 }
 
-// The first place of list A that is of the superframe block, or 0.
-fn superframe_place(superframe: OptionSuperframe) -> u8
-    ensures { λ r. ⌜ r ≡ firstFrom 8 (superframeA superframe) ⌝ }
+// SFFI is there though its selector is not set.
+fn sffi_stray(superframe: OptionSuperframe) -> bool
+    ensures { λ r. ⌜ r ≡ inSuperframe (λ f. and (isSome8 (f .sffi)) (not (f .«sffi_selector»))) superframe ⌝ }
 {
     match superframe {
         OptionSuperframe::Some(f) => {
             let sffi = f.sffi;
-            let plan_id = f.beamhopping_time_plan_id;
-            if u8_stray(sffi, f.sffi_selector) {
-                8
-            } else if u32_stray(plan_id, f.beam_hopping_time_plan_selector) {
-                9
-            } else {
-                0
-            }
+            u8_stray(sffi, f.sffi_selector)
         }
-        OptionSuperframe::None => 0,
+        OptionSuperframe::None => false,
+    }
+}
+
+// The same of the plan id.
+fn plan_stray(superframe: OptionSuperframe) -> bool
+    ensures { λ r. ⌜ r ≡ inSuperframe (λ f. and (isSome32 (f .«beamhopping_time_plan_id»)) (not (f .«beam_hopping_time_plan_selector»))) superframe ⌝ }
+{
+    match superframe {
+        OptionSuperframe::Some(f) => {
+            let plan_id = f.beamhopping_time_plan_id;
+            u32_stray(plan_id, f.beam_hopping_time_plan_selector)
+        }
+        OptionSuperframe::None => false,
     }
 }
 
@@ -127,21 +120,16 @@ pub fn inconsistency(r: S2Xv2SatelliteDeliverySystem) -> u8
     let index = r.scrambling_sequence_index;
     let timeslice = r.timeslice_number;
     let superframe = r.superframe;
-    if is_misnamed(mode) {
-        1
-    } else if u8_differs(stream, r.multiple_input_stream_flag) {
-        2
-    } else if bool_differs(selector, mode.has_scrambling_selector()) {
-        3
-    } else if u32_stray(index, selector.is_set()) {
-        4
-    } else if u8_differs(timeslice, mode.has_timeslice()) {
-        5
-    } else if bonds_stray(r.num_channel_bonds, r.channel_bond) {
-        6
-    } else if superframe_differs(superframe, mode.has_superframe()) {
-        7
-    } else {
-        superframe_place(superframe)
-    }
+    let tests = [
+        is_misnamed(mode),
+        u8_differs(stream, r.multiple_input_stream_flag),
+        bool_differs(selector, mode.has_scrambling_selector()),
+        u32_stray(index, selector.is_set()),
+        u8_differs(timeslice, mode.has_timeslice()),
+        bonds_stray(r.num_channel_bonds, r.channel_bond),
+        superframe_differs(superframe, mode.has_superframe()),
+        sffi_stray(superframe),
+        plan_stray(superframe),
+    ];
+    first_from(1, &tests)
 }

@@ -1,13 +1,13 @@
 // List B: a value that the wire cannot carry.
-ghost use mathlib.Core.List.{[], _∷_};
+ghost use mathlib.Core.List.{_++_};
 ghost use mathlib.Core.Path.{_≡_};
-ghost use Prim.Native.Nat.{_^_, _≤_, _<_};
-ghost use lib.Dec.{eqb};
 ghost use Rattle.wire.specs.Flags.{and, not};
-ghost use Rattle.s2xv2.specs.Options.{isSomeBool, isSome8, isSome32, selected, orZero32};
+ghost use Rattle.s2xv2.specs.Options.{isSomeBool, isSome8, isSome32};
 ghost use Rattle.s2xv2.specs.Encode.{lessOne, nibbleOf};
 ghost use Rattle.s2xv2.specs.ListA.{firstFrom};
 ghost use Rattle.s2xv2.specs.ListB.{wide, coreB, scramblingB, bondB, superframeB, unwritable};
+use crate::first::both;
+use crate::first::first_from;
 use s2xv2::option::OptionBool;
 use s2xv2::option::OptionU8;
 use s2xv2::option::OptionU32;
@@ -25,84 +25,11 @@ fn reserved_1_wide(selector: OptionBool, reserved: u8) -> bool
     }
 }
 
-// The first place of list B that is of the core, or 0.
-fn core_place(r: S2Xv2SatelliteDeliverySystem) -> u8
-    ensures { λ p. ⌜ p ≡ firstFrom 1 (coreB r) ⌝ }
-{
-    let mode = r.s2xv2_mode;
-    let selector = r.scrambling_sequence_selector;
-    if 16 <= mode.to_u8() {
-        1
-    } else if 8 <= r.roll_off {
-        2
-    } else if 4 <= r.reserved_zero_future_use_2 {
-        3
-    } else if 4 <= r.channel_bond {
-        4
-    } else if 4 <= r.polarization {
-        5
-    } else if reserved_1_wide(selector, r.reserved_zero_future_use_1) {
-        6
-    } else if 4 <= r.ts_gs_s2x_mode {
-        7
-    } else if 32 <= r.receiver_profiles {
-        8
-    } else if 16777216 <= r.satellite_id {
-        9
-    } else {
-        0
-    }
-}
-
-// The first place of list B that is of the scrambling index, or 0 where its selector is not set.
-fn scrambling_place(selector: OptionBool, reserved: u8, index: OptionU32) -> u8
-    ensures { λ p. ⌜ p ≡ firstFrom 10 (and (selected selector) (not (isSome32 index)) ∷ and (selected selector) (wide 18 (orZero32 index)) ∷ and (selected selector) (wide 6 reserved) ∷ []) ⌝ }
-{
-    if selector.is_set() {
-        index_place(index, reserved)
-    } else {
-        0
-    }
-}
-
-// The first place of list B that is of an index whose selector is set, or 0.
-fn index_place(index: OptionU32, reserved: u8) -> u8
-    ensures { λ p. ⌜ p ≡ firstFrom 10 (not (isSome32 index) ∷ wide 18 (orZero32 index) ∷ wide 6 reserved ∷ []) ⌝ }
-{
-    match index {
-        OptionU32::None => 10,
-        OptionU32::Some(v) => if 262144 <= v {
-            11
-        } else if 64 <= reserved {
-            12
-        } else {
-            0
-        },
-    }
-}
-
 // The count minus one is taken with wrap, so that zero becomes the largest number.
 pub fn less_one(count: u8) -> u8
     ensures { λ r. ⌜ r ≡ lessOne count ⌝ }
 {
     std::num::wrapping_sub_u8(count, 1)
-}
-
-// The first place of list B that is of the bonds, or 0 where channel_bond does not announce them.
-fn bond_place(bond: u8, count: u8, reserved: u8) -> u8
-    ensures { λ p. ⌜ p ≡ firstFrom 13 (and (eqb bond 1) (wide 1 (lessOne count)) ∷ and (eqb bond 1) (wide 7 reserved) ∷ []) ⌝ }
-{
-    if bond == 1 {
-        if 2 <= less_one(count) {
-            13
-        } else if 128 <= reserved {
-            14
-        } else {
-            0
-        }
-    } else {
-        0
-    }
 }
 
 // A byte is not there though its selector is set.
@@ -132,31 +59,51 @@ fn nibble(selector: bool, sffi: OptionU8, reserved: u8) -> u8
     if selector { sffi.or_zero() } else { reserved }
 }
 
+// The first place of list B that is of the core, the scrambling index or the bonds, or 0.
+fn parts_place(r: S2Xv2SatelliteDeliverySystem) -> u8
+    ensures { λ p. ⌜ p ≡ firstFrom 1 (coreB r ++ (scramblingB r ++ bondB r)) ⌝ }
+{
+    let mode = r.s2xv2_mode;
+    let selector = r.scrambling_sequence_selector;
+    let index = r.scrambling_sequence_index;
+    let scrambled = selector.is_set();
+    let bonded = r.channel_bond == 1;
+    let tests = [
+        16 <= mode.to_u8(),
+        8 <= r.roll_off,
+        4 <= r.reserved_zero_future_use_2,
+        4 <= r.channel_bond,
+        4 <= r.polarization,
+        reserved_1_wide(selector, r.reserved_zero_future_use_1),
+        4 <= r.ts_gs_s2x_mode,
+        32 <= r.receiver_profiles,
+        16777216 <= r.satellite_id,
+        u32_missing(index, scrambled),
+        both(scrambled, 262144 <= index.or_zero()),
+        both(scrambled, 64 <= r.reserved_zero_future_use_6),
+        both(bonded, 2 <= less_one(r.num_channel_bonds)),
+        both(bonded, 128 <= r.reserved_zero_future_use_7),
+    ];
+    first_from(1, &tests)
+}
+
 // The first place of list B that is of a superframe block, or 0.
 fn block_place(f: S2Xv2Superframe) -> u8
     ensures { λ p. ⌜ p ≡ firstFrom 15 (superframeB (OptionSuperframe.Some f)) ⌝ }
 {
     let sffi = f.sffi;
     let plan_id = f.beamhopping_time_plan_id;
-    if 1048576 <= f.reference_scrambling_index {
-        15
-    } else if 1048576 <= f.payload_scrambling_index {
-        16
-    } else if 4 <= f.reserved_zero_future_use_2 {
-        17
-    } else if u8_missing(sffi, f.sffi_selector) {
-        18
-    } else if 16 <= nibble(f.sffi_selector, sffi, f.reserved_zero_future_use_4) {
-        19
-    } else if u32_missing(plan_id, f.beam_hopping_time_plan_selector) {
-        20
-    } else if 32 <= f.superframe_pilots_wh_sequence_number {
-        21
-    } else if 8 <= f.postamble_pli {
-        22
-    } else {
-        0
-    }
+    let tests = [
+        1048576 <= f.reference_scrambling_index,
+        1048576 <= f.payload_scrambling_index,
+        4 <= f.reserved_zero_future_use_2,
+        u8_missing(sffi, f.sffi_selector),
+        16 <= nibble(f.sffi_selector, sffi, f.reserved_zero_future_use_4),
+        u32_missing(plan_id, f.beam_hopping_time_plan_selector),
+        32 <= f.superframe_pilots_wh_sequence_number,
+        8 <= f.postamble_pli,
+    ];
+    first_from(15, &tests)
 }
 
 // The same of a block that may be absent.
@@ -173,24 +120,10 @@ fn superframe_place(superframe: OptionSuperframe) -> u8
 pub fn unwritable(r: S2Xv2SatelliteDeliverySystem) -> u8
     ensures { λ p. ⌜ p ≡ unwritable r ⌝ }
 {
-    let selector = r.scrambling_sequence_selector;
-    let index = r.scrambling_sequence_index;
     let superframe = r.superframe;
-    let core = core_place(r);
-    if core != 0 {
-        return core;
-    }
-    let scrambling = scrambling_place(selector, r.reserved_zero_future_use_6, index);
-    if scrambling != 0 {
-        return scrambling;
-    }
-    let bond = bond_place(
-        r.channel_bond,
-        r.num_channel_bonds,
-        r.reserved_zero_future_use_7,
-    );
-    if bond != 0 {
-        return bond;
+    let place = parts_place(r);
+    if place != 0 {
+        return place;
     }
     superframe_place(superframe)
 }

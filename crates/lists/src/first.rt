@@ -1,0 +1,31 @@
+// What both lists ask of their tests.
+ghost use mathlib.Core.Path.{_≡_};
+ghost use Prim.Native.Nat.{_+_, _≤_};
+ghost use lib.ListN.{length};
+ghost use lib.Dec.{eqb, leb, ltb};
+ghost use Rattle.wire.specs.Flags.{and};
+ghost use Rattle.s2xv2.specs.ListA.{firstFrom};
+
+// The place, counted from `place`, of the first test that holds; 0 if none does.
+pub(crate) fn first_from(place: u8, tests: &[bool]) -> u8
+    requires { ⌜ place + length (now tests) ≤ 255 ⌝ }
+    ensures { λ r. ⌜ r ≡ firstFrom place (now (tests .entry)) ⌝ }
+{
+    let mut i = 0;
+    let mut at = place;
+    while i < tests.len() {
+        if tests[i] {
+            return at;
+        }
+        i += 1;
+        at += 1;
+    }
+    0
+}
+
+// Both hold.
+pub(crate) fn both(a: bool, b: bool) -> bool
+    ensures { λ r. ⌜ r ≡ and a b ⌝ }
+{
+    if a { b } else { false }
+}
