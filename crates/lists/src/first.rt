@@ -1,9 +1,7 @@
-// What both lists ask of their tests.
+// The first test of a list that holds.
 ghost use mathlib.Core.Path.{_≡_};
 ghost use Prim.Native.Nat.{_+_, _≤_};
 ghost use lib.ListN.{length};
-ghost use lib.Dec.{eqb, leb, ltb};
-ghost use Rattle.wire.specs.Flags.{and};
 ghost use Rattle.s2xv2.specs.ListA.{firstFrom};
 
 // The place, counted from `place`, of the first test that holds; 0 if none does.
@@ -21,11 +19,4 @@ pub(crate) fn first_from(place: u8, tests: &[bool]) -> u8
         at += 1;
     }
     0
-}
-
-// Both hold.
-pub(crate) fn both(a: bool, b: bool) -> bool
-    ensures { λ r. ⌜ r ≡ and a b ⌝ }
-{
-    if a { b } else { false }
 }

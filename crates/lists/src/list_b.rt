@@ -6,7 +6,6 @@ ghost use Rattle.s2xv2.specs.Options.{isSomeBool, isSome8, isSome32};
 ghost use Rattle.s2xv2.specs.Encode.{lessOne, nibbleOf};
 ghost use Rattle.s2xv2.specs.ListA.{firstFrom};
 ghost use Rattle.s2xv2.specs.ListB.{wide, coreB, scramblingB, bondB, superframeB, unwritable};
-use crate::first::both;
 use crate::first::first_from;
 use s2xv2::option::OptionBool;
 use s2xv2::option::OptionU8;
@@ -79,10 +78,10 @@ fn parts_place(r: S2Xv2SatelliteDeliverySystem) -> u8
         32 <= r.receiver_profiles,
         16777216 <= r.satellite_id,
         u32_missing(index, scrambled),
-        both(scrambled, 262144 <= index.or_zero()),
-        both(scrambled, 64 <= r.reserved_zero_future_use_6),
-        both(bonded, 2 <= less_one(r.num_channel_bonds)),
-        both(bonded, 128 <= r.reserved_zero_future_use_7),
+        scrambled & (262144 <= index.or_zero()),
+        scrambled & (64 <= r.reserved_zero_future_use_6),
+        bonded & (2 <= less_one(r.num_channel_bonds)),
+        bonded & (128 <= r.reserved_zero_future_use_7),
     ];
     first_from(1, &tests)
 }

@@ -10,10 +10,10 @@ use lib.ListN.{length}
 use lib.Dec.{ltb}
 use Rattle.wire.specs.Flags.{bit, isOne, when, and, not}
 use Rattle.s2xv2.specs.Answer.{saturated, told}
-use Rattle.s2xv2.specs.Read.{Need, needs, endsOf, presentIn, bodySize, shortTold, readTold, superframeAt, recordAt}
+use Rattle.s2xv2.specs.Read.{Need, needs, presentIn, bodySize, shortTold, readTold, superframeAt, recordAt, recordOf}
 use Rattle.s2xv2.specs.declared.superframe.OptionSuperframe.the-variants as OS
-use Rattle.s2xv2.specs.declared.layout.Present.{Present}
-use Rattle.s2xv2.specs.declared.layout.Ends.{Ends}
+use Rattle.layout.specs.Layout.{asked, endsNow}
+use Rattle.layout.specs.declared.present.Present.{Present}
 use Rattle.s2xv2.proofs.Back.{bit-of}
 use Rattle.s2xv2.proofs.Fields.{code-mode}
 use Rattle.flat.specs.Output.{answerOut, superframeOut, recordOut}
@@ -30,9 +30,9 @@ pub flat-block : (s : List ℕ) (p : ℕ) (plan : Bool) → flatBlockAt s p plan
 unfolding flatBlockAt superframeAt
 flat-block s p plan = simp (is-8, is-32)
 
-pub flat-record : (s : List ℕ) (k : Present) (e : Ends) → flatRecordAt s k e ≡ recordOut (recordAt s k e)
+pub flat-record : (s : List ℕ) (k : Present) → flatRecordAt s k (endsNow s k) ≡ recordOut (recordOf s (asked k))
 unfolding flatRecordAt recordAt
-flat-record s k e = simp (code-mode, is-bool, is-selected, is-8, is-32, is-superframe, top-clear)
+flat-record s k = simp (code-mode, is-bool, is-selected, is-8, is-32, is-superframe, top-clear)
 
 -- ---- the answer
 
@@ -61,7 +61,7 @@ unfolding readTold
 told-in s = go (ltb 4096 (length s))
   where
     ns : List Need
-    ns = needs (endsOf s (presentIn s))
+    ns = needs s (presentIn s)
 
     go : (c : Bool) → told (answerIn (answerOut (when c (2 ∷ saturated (length s) ∷ []) (shortTold (length s) ns (0 ∷ bodySize s ∷ []))))) ≡ when c (2 ∷ saturated (length s) ∷ []) (shortTold (length s) ns (0 ∷ bodySize s ∷ []))
     go true = ap (λ (n : ℕ). 2 ∷ n ∷ []) (long-in (length s))

@@ -8,8 +8,9 @@ use native.Mathlib.Nat.{le-refl}
 use native.Mathlib.Omega.{arith}
 use lib.ListN.{length, take, drop, length-drop}
 use lib.Seq.{take-all}
-use Rattle.s2xv2.specs.Read.{only, timesliceEnd, hasSecond, bondSize, superframeEnd, endsOf}
-use Rattle.s2xv2.specs.declared.layout.Present.{Present}
+use Rattle.s2xv2.specs.Read.{only, timesliceEnd, hasSecond, bondSize, superframeEnd}
+use Rattle.layout.specs.Layout.{asked, endsNow}
+use Rattle.layout.specs.declared.present.Present.{Present}
 use Rattle.reader.specs.Parts.{Reached}
 
 one : (b : Bool) (n : ℕ) → only b n ≤ n
@@ -21,12 +22,12 @@ bond true true = omega arith
 bond true false = omega arith
 bond false d = omega arith
 
-pub reached : (s : List ℕ) (k : Present) → superframeEnd s k ≤ length s → Reached s k (endsOf s k)
+pub reached : (s : List ℕ) (k : Present) → superframeEnd s (asked k) ≤ length s → Reached s k (endsNow s k)
 reached s k h =
     let a = one (k .stream) 1 in
     let b = one (k .scrambling) 3 in
     let c = one (k .timeslice) 1 in
-    let d = bond (k .bond) (hasSecond s (timesliceEnd k)) in
+    let d = bond (k .bond) (hasSecond s (timesliceEnd (asked k))) in
     record {
       core = omega arith;
       stream = omega arith;

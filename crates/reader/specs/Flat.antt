@@ -1,5 +1,5 @@
 -- What a body holds, as the plain numbers that the code gives: `flatBlockAt` a superframe block, `flatRecordAt` the record. `proofs/Flat.antt` shows that they are what crosses of
--- `superframeAt` and `recordAt`; no public contract cites them. Assumes nothing.
+-- `superframeAt` and `recordOf`; no public contract cites them. Assumes nothing.
 use Prim.Native.Nat.{ℕ, _+_}
 use mathlib.Core.List.{List, [], _∷_, _++_}
 use mathlib.Core.Bool.{Bool}
@@ -9,8 +9,8 @@ use Rattle.s2xv2.specs.Table144b as T
 use Rattle.s2xv2.specs.Table144c.{modeOf, hasSelector}
 use Rattle.s2xv2.specs.Options.{orZero8, orZero32, some8If, someSuperframeIf}
 use Rattle.s2xv2.specs.Read.{planAt, superframeAt, byteAt, timesliceAt, reserved6At, indexAt, reserved7At, countIf, firstIdAt, secondIdAt}
-use Rattle.s2xv2.specs.declared.layout.Present.{Present}
-use Rattle.s2xv2.specs.declared.layout.Ends.{Ends}
+use Rattle.layout.specs.declared.present.Present.{Present}
+use Rattle.layout.specs.declared.ends.Ends.{Ends}
 use Rattle.flat.specs.Output.{isReserved, superframeOut}
 use Rattle.flat.specs.declared.types.FlatSuperframe.{FlatSuperframe}
 use Rattle.flat.specs.declared.types.FlatRecord.{FlatRecord}

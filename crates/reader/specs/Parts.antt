@@ -6,8 +6,8 @@ use mathlib.Core.Bool.{Bool}
 use lib.ListN.{length}
 use Rattle.s2xv2.specs.Options.{orZero32}
 use Rattle.s2xv2.specs.Read.{only, bondSize, superframeSize, reserved6At, indexAt, reserved7At, countIf, firstIdAt, secondIdAt}
-use Rattle.s2xv2.specs.declared.layout.Present.{Present}
-use Rattle.s2xv2.specs.declared.layout.Ends.{Ends}
+use Rattle.layout.specs.declared.present.Present.{Present}
+use Rattle.layout.specs.declared.ends.Ends.{Ends}
 use Rattle.reader.specs.declared.parts.Scrambling.{Scrambling}
 use Rattle.reader.specs.declared.parts.Bonds.{Bonds}
 

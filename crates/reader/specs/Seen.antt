@@ -1,14 +1,13 @@
--- What a caller sees: of `Parsed` the numbers of its answer, and its record (`seen`); of a reading as plain numbers both as they cross (`flatSeen`, and `flatRefusal` for a refused
+-- What a caller sees: of `Parsed` the numbers of its answer, and its record (`seen`); of a reading as plain numbers both as they cross (`flatSeen`, and `flatRefused` for a refused
 -- one, which shows the default record). `answerIn` is the answer that the numbers of a reading mean. Assumes nothing.
 use Prim.Native.Nat.{_%_}
 use lib.Dec.{eqb}
 use Rattle.wire.specs.Flags.{when}
-use Rattle.s2xv2.specs.Answer.{numbers, told}
+use Rattle.s2xv2.specs.Answer.{told}
 use Rattle.s2xv2.specs.Default.{defaultRecord}
 use Rattle.s2xv2.specs.Read.{Reading}
 use Rattle.s2xv2.specs.declared.answer.Answer.{Answer}
 use Rattle.s2xv2.specs.declared.answer.Answer.the-variants as A
-use Rattle.s2xv2.specs.declared.answer.Refusal.{Refusal}
 use Rattle.s2xv2.specs.declared.answer.Refusal.the-variants as R
 use Rattle.flat.specs.declared.types.FlatAnswer.{FlatAnswer}
 use Rattle.flat.specs.declared.types.FlatParsed.{FlatParsed}
@@ -21,8 +20,8 @@ seen r = record { told = told (r .answer); body = r .body }
 abbrev pub flatSeen : Reading → FlatParsed
 flatSeen x = record { answer = answerOut (x .told); body = recordOut (x .body) }
 
-abbrev pub flatRefusal : Refusal → FlatParsed
-flatRefusal why = flatSeen (record { told = numbers why; body = defaultRecord })
+abbrev pub flatRefused : Answer → FlatParsed
+flatRefused a = flatSeen (record { told = told a; body = defaultRecord })
 
 abbrev pub answerIn : FlatAnswer → Answer
 answerIn a =

@@ -1,20 +1,22 @@
 // Reads the body of an S2Xv2 satellite delivery system descriptor.
 ghost use mathlib.Core.Path.{_≡_};
 ghost use Rattle.s2xv2.specs.Read.{readOf, tailOf};
-ghost use Rattle.reader.specs.Seen.{seen, flatSeen, flatRefusal, answerIn};
+ghost use Rattle.reader.specs.Seen.{seen, flatSeen, flatRefused, answerIn};
 use flat::input::record_in;
 use flat::output::answer_of;
+use flat::output::answer_out;
 use flat::output::record_out;
-use flat::output::refusal_out;
 use flat::types::FlatAnswer;
 use flat::types::FlatParsed;
+use layout::ends::ends_of;
+use layout::missing::missing;
+use layout::present::present_in;
 use s2xv2::answer::Answer;
 use s2xv2::answer::Refusal;
 use s2xv2::answer::saturated;
 use s2xv2::record::S2Xv2SatelliteDeliverySystem;
 
 mod bytes;
-mod layout;
 mod parts;
 mod record;
 
@@ -25,11 +27,11 @@ pub struct Parsed {
 }
 
 // A refused body shows the default record.
-fn refused(why: Refusal) -> FlatParsed
-    ensures { λ r. ⌜ r ≡ flatRefusal why ⌝ }
+fn refused(answer: Answer) -> FlatParsed
+    ensures { λ r. ⌜ r ≡ flatRefused answer ⌝ }
 {
     FlatParsed {
-        answer: refusal_out(why),
+        answer: answer_out(answer),
         body: record_out(S2Xv2SatelliteDeliverySystem::default()),
     }
 }
@@ -40,18 +42,15 @@ pub fn parse_flat(sel: &[u8]) -> FlatParsed
 {
     let have = sel.len();
     if 4096 < have {
-        return refused(Refusal::Long {
+        return refused(Answer::Refused(Refusal::Long {
             length: saturated(have),
-        });
+        }));
     }
-    if have < 18 {
-        return refused(layout::short(1, 18, have));
-    }
-    let k = layout::present_in(sel);
-    let e = layout::ends_of(sel, k);
+    let k = present_in(sel);
+    let e = ends_of(sel, k);
     let end = e.superframe;
     if have < end {
-        return refused(layout::missing(have, e));
+        return refused(missing(have, e));
     }
     FlatParsed {
         answer: answer_of(0, end, 0, 0),

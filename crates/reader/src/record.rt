@@ -1,15 +1,13 @@
 // The record that a body holds.
 ghost use mathlib.Core.Path.{_≡_};
 ghost use Rattle.s2xv2.specs.Options.{someSuperframeIf};
-ghost use Rattle.s2xv2.specs.Read.{superframeAt, recordAt};
-ghost use Rattle.flat.specs.Output.{superframeOut, recordOut};
+ghost use Rattle.s2xv2.specs.Read.{superframeAt};
+ghost use Rattle.flat.specs.Output.{superframeOut};
 ghost use Rattle.reader.specs.Parts.{Reached};
 ghost use Rattle.reader.specs.Flat.{flatRecordAt};
 use crate::bytes::be24;
 use crate::bytes::be32;
 use crate::bytes::byte;
-use crate::layout::both;
-use crate::layout::without;
 use crate::parts::block_at;
 use crate::parts::bonds_at;
 use crate::parts::byte_at;
@@ -18,8 +16,8 @@ use flat::output::is_reserved;
 use flat::output::no_block;
 use flat::types::FlatRecord;
 use flat::types::FlatSuperframe;
-use s2xv2::layout::Ends;
-use s2xv2::layout::Present;
+use layout::ends::Ends;
+use layout::present::Present;
 use s2xv2::mode::S2Xv2Mode;
 use wire::field::bit_of;
 use wire::field::field;
@@ -60,8 +58,8 @@ fn record_of(s: &[u8], k: Present, e: Ends, superframe: FlatSuperframe) -> FlatR
         channel_bond: field(b5, 4, 4),
         polarization: field(b5, 1, 4),
         has_scrambling_sequence_selector: bit_of(selector),
-        scrambling_sequence_selector: bit_of(both(selector, top)),
-        reserved_zero_future_use_1: bit_of(without(selector, top)),
+        scrambling_sequence_selector: bit_of(selector & top),
+        reserved_zero_future_use_1: bit_of(!selector & top),
         ts_gs_s2x_mode: field(b6, 32, 4),
         receiver_profiles: field(b6, 1, 32),
         has_input_stream_identifier: bit_of(k.stream),
@@ -79,7 +77,7 @@ fn record_of(s: &[u8], k: Present, e: Ends, superframe: FlatSuperframe) -> FlatR
 // The record of a body that reaches the ends of its parts, as plain numbers.
 pub(crate) fn record_at(s: &[u8], k: Present, e: Ends) -> FlatRecord
     requires { ⌜ Reached (now s) k e ⌝ }
-    ensures { λ r. ⌜ r ≡ recordOut (recordAt (now (s .entry)) k e) ⌝ }
+    ensures { λ r. ⌜ r ≡ flatRecordAt (now (s .entry)) k e ⌝ }
 {
     if k.superframe {
         return record_of(s, k, e, block_at(s, e.bond, e.plan));

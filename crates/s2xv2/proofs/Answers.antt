@@ -49,10 +49,6 @@ answer-back (A.Refused R.Slot) = refl
 answer-back (A.Refused (R.NoFit size)) = refl
 answer-back (A.Refused R.OtherSize) = refl
 
--- Two refusals with the same numbers are equal.
-pub same-numbers : (a b : Refusal) → numbers a ≡ numbers b → a ≡ b
-same-numbers a b e = sym (refusal-back a) ∙ ap refusalOf e ∙ refusal-back b
-
 -- Two answers with the same numbers are equal.
 pub same-told : (a b : Answer) → told a ≡ told b → a ≡ b
 same-told a b e = sym (answer-back a) ∙ ap answerOf e ∙ answer-back b

@@ -15,13 +15,12 @@ use Rattle.wire.proofs.Cut.{fit-cut}
 use Rattle.s2xv2.specs.Table144b as T
 use Rattle.s2xv2.specs.Table144c.{modeOf, hasSelector}
 use Rattle.s2xv2.specs.Options.{isSomeBool, isSome8, isSome32, isSomeSuperframe, selected, orZero8, orZero32, someBoolIf, some8If, some32If, someSuperframeIf}
-use Rattle.s2xv2.specs.Read.{presentIn, only, streamEnd, scramblingEnd, timesliceEnd, hasSecond, bondEnd, hasPlan, superframeAt, countIf, recordAt, recordIn}
+use Rattle.s2xv2.specs.Read.{Present, presentIn, only, streamEnd, scramblingEnd, timesliceEnd, hasSecond, bondEnd, hasPlan, superframeAt, countIf, recordAt, recordIn}
 use Rattle.s2xv2.specs.Encode.{lessOne}
 use Rattle.s2xv2.specs.ListA.{misnamed, inSuperframe, listA, inconsistency}
 use Rattle.s2xv2.specs.ListB.{wide, superframeB, listB, unwritable}
 use Rattle.s2xv2.specs.Carried.{carriedSuperframe, carriedId, carried}
 use Rattle.s2xv2.specs.Held.{HeldSuperframe, Held}
-use Rattle.s2xv2.specs.declared.layout.Present.{Present}
 use Rattle.s2xv2.specs.declared.superframe.S2Xv2Superframe.{S2Xv2Superframe}
 use Rattle.s2xv2.specs.declared.mode.S2Xv2Mode.the-variants as M
 use Rattle.s2xv2.proofs.Fields.{code-mode}

@@ -11,8 +11,7 @@ use borrow.Author.Tests.{eqb-true}
 use Rattle.wire.specs.Flags.{when, isOne, and}
 use Rattle.wire.specs.Bits.{bits}
 use Rattle.s2xv2.specs.Table144c.{modeOf, codeOf, hasSelector, hasTimeslice, hasSuperframe}
-use Rattle.s2xv2.specs.Read.{presentIn, streamEnd, scramblingEnd, timesliceEnd, superframeAt, recordAt, recordIn}
-use Rattle.s2xv2.specs.declared.layout.Present.{Present}
+use Rattle.s2xv2.specs.Read.{Present, presentIn, streamEnd, scramblingEnd, timesliceEnd, superframeAt, recordAt, recordIn}
 use Rattle.s2xv2.specs.declared.option.OptionBool.the-variants as OB
 use Rattle.s2xv2.specs.declared.option.OptionU8.the-variants as O8
 use Rattle.s2xv2.specs.declared.option.OptionU32.the-variants as O32

@@ -248,7 +248,3 @@ pub first-append : (p : ℕ) (ts us : List Bool) → firstFrom (suc p) (ts ++ us
 first-append p [] us = ap (λ (k : ℕ). firstFrom k us) (sym (add-zero (suc p)))
 first-append p (true ∷ ts) us = simp (ne-eqb (suc p) 0 (λ d. omega arith))
 first-append p (false ∷ ts) us = first-append (suc p) ts us ∙ ap (λ (k : ℕ). when (eqb (firstFrom (suc (suc p)) ts) 0) (firstFrom k us) (firstFrom (suc (suc p)) ts)) (omega arith)
-
-pub clear-append : (p : ℕ) (ts us : List Bool) → Clear ts → firstFrom p (ts ++ us) ≡ firstFrom (p + length ts) us
-clear-append p [] us h = ap (λ (k : ℕ). firstFrom k us) (sym (add-zero p))
-clear-append p (t ∷ ts) us h = simp (h .0) (clear-append (suc p) ts us (h .1) ∙ ap (λ (k : ℕ). firstFrom k us) (omega arith))

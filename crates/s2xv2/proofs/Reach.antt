@@ -8,12 +8,11 @@ use Prim.Native.Nat.{ℕ, _≤_, _<_}
 use native.Mathlib.Omega.{arith}
 use lib.ListN.{length, drop, getD}
 use lib.Dec.{ltb, eqb}
-use borrow.Author.Tests.{lt-ltb, le-ltb, ltb-true, ltb-false, eq-eqb}
+use borrow.Author.Tests.{lt-ltb, le-ltb, ltb-true, ltb-false, eq-eqb, ne-eqb}
 use Rattle.wire.specs.Flags.{when}
 use Rattle.s2xv2.specs.Answer.{numbers, saturated}
 use Rattle.s2xv2.specs.Default.{defaultRecord}
-use Rattle.s2xv2.specs.Read.{only, presentIn, hasSecond, bondSize, bondEnd, hasPlan, superframeSize, planSize, superframeEnd, timesliceEnd, endsOf, bodySize, Need, needs, numberOf, shortTold, readTold, readOf, recordIn, tailOf}
-use Rattle.s2xv2.specs.declared.layout.Present.{Present}
+use Rattle.s2xv2.specs.Read.{Present, only, presentIn, hasSecond, bondSize, bondEnd, hasPlan, superframeSize, planSize, superframeEnd, timesliceEnd, bodySize, Need, needs, numberOf, shortTold, readTold, readOf, recordIn, tailOf}
 use Rattle.s2xv2.specs.declared.answer.Refusal.{Refusal}
 use Rattle.s2xv2.specs.declared.answer.Refusal.the-variants as R
 
@@ -49,7 +48,7 @@ block-order true true = (omega arith, omega arith)
 block-order true false = (omega arith, omega arith)
 block-order false d = (omega arith, omega arith)
 
-pub reaches-all : (s : List ℕ) (k : Present) (n : ℕ) → superframeEnd s k ≤ n → Reaches n (needs (endsOf s k))
+pub reaches-all : (s : List ℕ) (k : Present) (n : ℕ) → superframeEnd s k ≤ n → Reaches n (needs s k)
 reaches-all s k n h =
     let f = bond-order (k .bond) (hasSecond s (timesliceEnd k)) in
     let g = block-order (k .superframe) (hasPlan s (bondEnd s k)) in
@@ -76,7 +75,7 @@ module _ (s : List ℕ) where
   told-long h = simp (lt-ltb _ _ h)
 
   -- within the limit, what is missing decides
-  pub told-within : length s ≤ 4096 → readTold s ≡ shortTold (length s) (needs (endsOf s (presentIn s))) (0 ∷ bodySize s ∷ [])
+  pub told-within : length s ≤ 4096 → readTold s ≡ shortTold (length s) (needs s (presentIn s)) (0 ∷ bodySize s ∷ [])
   unfolding readTold
   told-within h = simp (le-ltb _ _ h)
 
@@ -85,7 +84,7 @@ module _ (s : List ℕ) where
 
   pub told-accepted : bodySize s ≤ length s → length s ≤ 4096 → readTold s ≡ 0 ∷ bodySize s ∷ []
   unfolding bodySize
-  told-accepted e h = told-within h ∙ reaches-told (length s) (needs (endsOf s (presentIn s))) _ (reaches-all s (presentIn s) (length s) e)
+  told-accepted e h = told-within h ∙ reaches-told (length s) (needs s (presentIn s)) _ (reaches-all s (presentIn s) (length s) e)
 
   -- what a body that is accepted reads as, and one that is refused
   pub reads-accepted : bodySize s ≤ length s → length s ≤ 4096 → readOf s ≡ record { told = 0 ∷ bodySize s ∷ []; body = recordIn s }
@@ -99,14 +98,18 @@ module _ (s : List ℕ) where
   unfolding bodySize
   accepted-reaches z = go (ltb 4096 (length s)) refl
     where
-      reached : Reaches (length s) (needs (endsOf s (presentIn s))) → superframeEnd s (presentIn s) ≤ length s
+      reached : Reaches (length s) (needs s (presentIn s)) → superframeEnd s (presentIn s) ≤ length s
       reached r = r .1 .1 .1 .1 .1 .1 .1 .1 .1 .0
 
       go : (c : Bool) → ltb 4096 (length s) ≡ c → (superframeEnd s (presentIn s) ≤ length s) × (length s ≤ 4096)
       go true e = let d : _≡_ {A = ℕ} 2 0 = ap numberOf (sym (told-long (ltb-true _ _ e))) ∙ z in absurd (omega arith)
       go false e =
           let h : length s ≤ 4096 = ltb-false _ _ e in
-          (reached (told-reaches (length s) (needs (endsOf s (presentIn s))) (0 ∷ bodySize s ∷ []) (ap numberOf (sym (told-within h)) ∙ z)), h)
+          (reached (told-reaches (length s) (needs s (presentIn s)) (0 ∷ bodySize s ∷ []) (ap numberOf (sym (told-within h)) ∙ z)), h)
+
+  -- one that does not reach it shows the default record
+  pub reads-short : length s < bodySize s → readOf s ≡ record { told = readTold s; body = defaultRecord }
+  reads-short h = simp (ne-eqb _ _ (λ z. let d = accepted-reaches z in omega arith))
 
   -- the place that an accepted body tells is where its tail starts
   pub accepted-tail : (t : ℕ) → 0 ∷ t ∷ [] ≡ readTold s → (bodySize s ≡ t) × (t ≤ length s) × (tailOf s ≡ drop t s)

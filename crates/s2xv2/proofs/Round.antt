@@ -15,11 +15,9 @@ use Rattle.wire.specs.Parts.{Part, _⦂_, bytesOf, sizes, AllFit}
 use Rattle.wire.proofs.Parts.{bytesOf-append, sizes-append, fit-left, fit-right, bytes-bytesOf, Stands, Found, find, after}
 use Rattle.s2xv2.specs.Table144b as T
 use Rattle.s2xv2.specs.Options.{isSomeBool, isSome8, isSome32, isSomeSuperframe, selected, someBoolIf, some8If, someSuperframeIf}
-use Rattle.s2xv2.specs.Read.{presentFrom, presentIn, only, streamEnd, scramblingEnd, timesliceEnd, hasSecond, bondSize, bondEnd, hasPlan, superframeSize, superframeEnd, endsOf, bodySize, superframeFrom, superframeAt, byteAt, reserved6At, indexAt, reserved7At, countIf, firstIdAt, secondIdAt, recordFrom, recordAt, recordIn, readTold, Reading, readOf, tailOf}
+use Rattle.s2xv2.specs.Read.{Present, presentFrom, presentIn, only, streamEnd, scramblingEnd, timesliceEnd, hasSecond, bondSize, bondEnd, hasPlan, superframeSize, superframeEnd, bodySize, superframeFrom, superframeAt, byteAt, reserved6At, indexAt, reserved7At, countIf, firstIdAt, secondIdAt, recordFrom, recordAt, recordIn, readTold, Reading, readOf, tailOf}
 use Rattle.s2xv2.specs.Encode.{topBit, coreValues, byteParts, scramblingParts, bondParts, nibbleOf, superframeValues, planParts, superframeEndValues, superframeParts, streamOf, scramblingOf, timesliceOf, bondOf, superframeOf, partsOf, encode, encodedLength}
 use Rattle.s2xv2.specs.Carried.{carriedBlock, carriedSuperframe, carriedId, carried}
-use Rattle.s2xv2.specs.declared.layout.Present.{Present}
-use Rattle.s2xv2.specs.declared.layout.Ends.{Ends}
 use Rattle.s2xv2.specs.declared.record.S2Xv2SatelliteDeliverySystem.{S2Xv2SatelliteDeliverySystem}
 use Rattle.s2xv2.specs.declared.superframe.S2Xv2Superframe.{S2Xv2Superframe}
 use Rattle.s2xv2.specs.declared.superframe.OptionSuperframe.{OptionSuperframe}
@@ -285,12 +283,10 @@ module _ (s : List ℕ) (r : S2Xv2SatelliteDeliverySystem) (tail : List ℕ) (b 
       (end₅-is
       ∙ omega (arith, sizes-append (streamOf r) rest₁, sizes-append (scramblingOf r) rest₂, sizes-append (timesliceOf r) rest₃, sizes-append (bondOf r) (superframeOf r)))
 
-  parts-read : (e : Ends) → e .stream ≡ end₁ → e .scrambling ≡ end₂ → e .timeslice ≡ end₃ → e .second ≡ hasSecond s end₃ → e .bond ≡ end₄ → e .plan ≡ hasPlan s end₄
-      → recordAt s (presentOf r) e ≡ again r (cut s 0 T.core)
+  parts-read : recordAt s (presentOf r) end₁ end₂ end₃ end₄ ≡ again r (cut s 0 T.core)
   unfolding recordAt
-  parts-read e e₁ e₂ e₃ d e₄ p =
-      rw (e₁, e₂, e₃, d, e₄, p)
-      (simp (
+  parts-read =
+      simp (
         byte-reads s b _ _ (fit-left (streamOf r) rest₁ fit₀) st₀,
         scrambling-read .reserved,
         scrambling-read .index,
@@ -300,12 +296,12 @@ module _ (s : List ℕ) (r : S2Xv2SatelliteDeliverySystem) (tail : List ℕ) (b 
         bond-read .first,
         bond-read .second,
         superframe-read .block,
-      ))
+      )
 
   record-read : recordIn s ≡ carried r
   record-read =
       rw present-read
-      (parts-read (endsOf s (presentOf r)) end₁-is end₂-is end₃-is (ap (hasSecond s) end₃-is) end₄-is (ap (hasPlan s) end₄-is)
+      (rw (end₄-is, end₃-is, end₂-is, end₁-is) parts-read
       ∙ ap (again r) (core-found .fields)
       ∙ record-from r c)
 

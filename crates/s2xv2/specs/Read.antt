@@ -1,13 +1,14 @@
--- What a body reads as. `presentIn` says which parts its core asks for; `streamEnd` to `superframeEnd` say where each part ends (all of
--- them in `endsOf`), and `bodySize` is the last; `needs` lists the parts with the ends that the body has to reach; `recordIn` is the
+-- What a body reads as. `presentIn` says which parts its core asks for; `streamEnd` to `superframeEnd` say where each part ends, and
+-- `bodySize` is the last; `needs` lists the parts with the ends that the body has to reach; `recordIn` is the
 -- record that it holds, `readTold` the answer in numbers, `readOf` both as the reader shows them, and `tailOf` the tail.
 -- A part that is not there ends where the part before it ends, so that it is never the first that is missing. Assumes nothing.
--- Which parts: `presentFrom` the values of the core; `hasSecond` asks a bond header for a second id, `hasPlan` a block for a plan id.
--- Where: `only` counts what is there; `streamEnd`, `scramblingEnd`, `timesliceEnd`, `bondEnd` by `bondSize`, `superframeEnd` by
--- `superframeSize`; `planSize` is as far as a plan id goes. A `Need`, made by `_to_`, is a place with its end.
+-- Which parts: `Present`, `presentFrom` the values of the core; `hasSecond` asks a bond header for a second id, `hasPlan` a block for a plan id.
+-- Where: `only` counts what is there; `streamEnd`, `scramblingEnd`, `timesliceEnd`; `headerEnd`, `firstIdEnd` and `bondEnd` by `bondSize`;
+-- `blockEnd`, `planEnd` by `planSize`, as far as a plan id goes, and `superframeEnd` by `superframeSize`. A `Need`, made by `_to_`, is a
+-- place with its end.
 -- The record: `byteAt` is the stream id, `timesliceAt` the timeslice, `reserved6At`, `indexAt`, `reserved7At`, `firstIdAt` and `secondIdAt` are
 -- the other fields, `countIf` the bonds' count; `superframeFrom` its values is a block, `planAt` its plan id, `superframeAt` the block at
--- a byte; `recordFrom` all of these is the record, and `recordAt` the one of a body whose parts stand as told.
+-- a byte; `recordFrom` all of these is the record, `recordAt` the one of a body whose parts start as told, `recordOf` the one whose parts stand one behind the other.
 -- The answer: `numberOf` it is its first number, `shortTold` is 1 or what else is told, `Reading` is an answer with the record.
 use Prim.Native.Nat.{ℕ, _+_}
 use mathlib.Core.List.{List, [], _∷_, _++_}
@@ -21,8 +22,6 @@ use Rattle.s2xv2.specs.Table144c.{modeOf, hasSelector, hasTimeslice, has
 use Rattle.s2xv2.specs.Default.{defaultRecord}
 use Rattle.s2xv2.specs.Options.{someBoolIf, some8If, some32If, someSuperframeIf}
 use Rattle.s2xv2.specs.Answer.{saturated}
-use Rattle.s2xv2.specs.declared.layout.Present.{Present}
-use Rattle.s2xv2.specs.declared.layout.Ends.{Ends}
 use Rattle.s2xv2.specs.declared.record.S2Xv2SatelliteDeliverySystem.{S2Xv2SatelliteDeliverySystem}
 use Rattle.s2xv2.specs.declared.superframe.S2Xv2Superframe.{S2Xv2Superframe}
 use Rattle.s2xv2.specs.declared.superframe.OptionSuperframe.{OptionSuperframe}
@@ -30,6 +29,14 @@ use Rattle.s2xv2.specs.declared.option.OptionU8.{OptionU8}
 use Rattle.s2xv2.specs.declared.option.OptionU32.{OptionU32}
 
 -- ---- which parts are there
+
+-- those that are not always there
+pub record Present : Type 0 where
+  pub stream : Bool
+  pub scrambling : Bool
+  pub timeslice : Bool
+  pub bond : Bool
+  pub superframe : Bool
 
 -- as the values of the core say
 abbrev pub presentFrom : List ℕ → Present
@@ -60,6 +67,12 @@ scramblingEnd k = streamEnd k + only (k .scrambling) (size T.scrambling)
 abbrev pub timesliceEnd : Present → ℕ
 timesliceEnd k = scramblingEnd k + only (k .timeslice) (size T.timeslice)
 
+abbrev pub headerEnd : Present → ℕ
+headerEnd k = timesliceEnd k + only (k .bond) (size T.bondHeader)
+
+abbrev pub firstIdEnd : Present → ℕ
+firstIdEnd k = timesliceEnd k + only (k .bond) (size (T.bondHeader ++ T.bondId))
+
 -- num_channel_bonds_minus_one is 1: there is a second id
 abbrev pub hasSecond : List ℕ → ℕ → Bool
 hasSecond s p = read T.bondHeader s p (λ _ less. isOne less)
@@ -70,34 +83,26 @@ bondSize second = when second (size (T.bondHeader ++ T.bondId ++ T.bondId)) (siz
 abbrev pub bondEnd : List ℕ → Present → ℕ
 bondEnd s k = timesliceEnd k + only (k .bond) (bondSize (hasSecond s (timesliceEnd k)))
 
+-- the block as long as it is without a plan id
+abbrev pub blockEnd : List ℕ → Present → ℕ
+blockEnd s k = bondEnd s k + only (k .superframe) (size (T.superframe ++ T.superframeEnd))
+
 -- beam_hopping_time_plan_selector is set: there is a plan id
 abbrev pub hasPlan : List ℕ → ℕ → Bool
 hasPlan s p = read T.superframe s p (λ _ _ hopping _ _ _ _. isOne hopping)
+
+-- how far the plan id goes; without one, as far as the block
+abbrev pub planSize : Bool → ℕ
+planSize plan = when plan (size (T.superframe ++ T.plan)) (size (T.superframe ++ T.superframeEnd))
+
+abbrev pub planEnd : List ℕ → Present → ℕ
+planEnd s k = bondEnd s k + only (k .superframe) (planSize (hasPlan s (bondEnd s k)))
 
 abbrev pub superframeSize : Bool → ℕ
 superframeSize plan = when plan (size (T.superframe ++ T.plan ++ T.superframeEnd)) (size (T.superframe ++ T.superframeEnd))
 
 abbrev pub superframeEnd : List ℕ → Present → ℕ
 superframeEnd s k = bondEnd s k + only (k .superframe) (superframeSize (hasPlan s (bondEnd s k)))
-
--- how far the plan id goes; without one, as far as the block
-abbrev pub planSize : Bool → ℕ
-planSize plan = when plan (size (T.superframe ++ T.plan)) (size (T.superframe ++ T.superframeEnd))
-
-abbrev pub endsOf : List ℕ → Present → Ends
-endsOf s k = record {
-  stream = streamEnd k;
-  scrambling = scramblingEnd k;
-  timeslice = timesliceEnd k;
-  header = timesliceEnd k + only (k .bond) (size T.bondHeader);
-  «first_id» = timesliceEnd k + only (k .bond) (size (T.bondHeader ++ T.bondId));
-  second = hasSecond s (timesliceEnd k);
-  bond = bondEnd s k;
-  block = bondEnd s k + only (k .superframe) (size (T.superframe ++ T.superframeEnd));
-  plan = hasPlan s (bondEnd s k);
-  «plan_id» = bondEnd s k + only (k .superframe) (planSize (hasPlan s (bondEnd s k)));
-  superframe = superframeEnd s k;
-}
 
 -- THE SIZE that mode, flags and bond count dictate
 unfoldable pub bodySize : List ℕ → ℕ
@@ -115,18 +120,18 @@ abbrev pub _to_ : ℕ → ℕ → Need
 place to need = record { place = place; need = need }
 
 -- the parts in wire order
-abbrev pub needs : Ends → List Need
-needs e =
+abbrev pub needs : List ℕ → Present → List Need
+needs s k =
     1 to size T.core
-    ∷ 2 to e .stream
-    ∷ 3 to e .scrambling
-    ∷ 4 to e .timeslice
-    ∷ 5 to e .header
-    ∷ 6 to e .«first_id»
-    ∷ 6 to e .bond
-    ∷ 7 to e .block
-    ∷ 8 to e .«plan_id»
-    ∷ 9 to e .superframe
+    ∷ 2 to streamEnd k
+    ∷ 3 to scramblingEnd k
+    ∷ 4 to timesliceEnd k
+    ∷ 5 to headerEnd k
+    ∷ 6 to firstIdEnd k
+    ∷ 6 to bondEnd s k
+    ∷ 7 to blockEnd s k
+    ∷ 8 to planEnd s k
+    ∷ 9 to superframeEnd s k
     ∷ []
 
 -- ---- the record
@@ -212,18 +217,23 @@ recordFrom vs stream reserved6 index timeslice reserved7 count first second supe
       superframe = superframe;
     }) vs
 
-unfoldable pub recordAt : List ℕ → Present → Ends → S2Xv2SatelliteDeliverySystem
-recordAt s k e =
+-- of the parts that are there, with the byte that each but the core and the stream id starts at
+unfoldable pub recordAt : List ℕ → Present → ℕ → ℕ → ℕ → ℕ → S2Xv2SatelliteDeliverySystem
+recordAt s k scrambling timeslice bond superframe =
     recordFrom (cut s 0 T.core)
     (byteAt s (size T.core) (k .stream))
-    (reserved6At s (e .stream) (k .scrambling)) (indexAt s (e .stream) (k .scrambling))
-    (timesliceAt s (e .scrambling) (k .timeslice))
-    (reserved7At s (e .timeslice) (k .bond)) (countIf (k .bond) (e .second))
-    (firstIdAt s (e .timeslice) (k .bond)) (secondIdAt s (e .timeslice) (k .bond) (e .second))
-    (someSuperframeIf (k .superframe) (superframeAt s (e .bond) (e .plan)))
+    (reserved6At s scrambling (k .scrambling)) (indexAt s scrambling (k .scrambling))
+    (timesliceAt s timeslice (k .timeslice))
+    (reserved7At s bond (k .bond)) (countIf (k .bond) (hasSecond s bond))
+    (firstIdAt s bond (k .bond)) (secondIdAt s bond (k .bond) (hasSecond s bond))
+    (someSuperframeIf (k .superframe) (superframeAt s superframe (hasPlan s superframe)))
+
+-- each part starts where the one before it ends
+abbrev pub recordOf : List ℕ → Present → S2Xv2SatelliteDeliverySystem
+recordOf s k = recordAt s k (streamEnd k) (scramblingEnd k) (timesliceEnd k) (bondEnd s k)
 
 abbrev pub recordIn : List ℕ → S2Xv2SatelliteDeliverySystem
-recordIn s = recordAt s (presentIn s) (endsOf s (presentIn s))
+recordIn s = recordOf s (presentIn s)
 
 -- ---- the answer
 
@@ -239,7 +249,7 @@ shortTold have (n ∷ ns) otherwise = when (ltb have (n .need)) (1 ∷ n .place 
 -- 2, then 1 in wire order, then accepted: the tail starts where the last part ends
 unfoldable pub readTold : List ℕ → List ℕ
 readTold s =
-    when (ltb 4096 (length s)) (2 ∷ saturated (length s) ∷ []) (shortTold (length s) (needs (endsOf s (presentIn s))) (0 ∷ bodySize s ∷ []))
+    when (ltb 4096 (length s)) (2 ∷ saturated (length s) ∷ []) (shortTold (length s) (needs s (presentIn s)) (0 ∷ bodySize s ∷ []))
 
 -- what the reader answers: the numbers told, and the record shown
 pub record Reading : Type 0 where

@@ -2,7 +2,6 @@
 // The crates `reader` and `writer` have the calls; the definitions that they meet stand in this crate's specs, and the theorems on
 // these in its proofs.
 pub mod answer;
-pub mod layout;
 pub mod mode;
 pub mod option;
 pub mod record;

@@ -5,7 +5,7 @@ use mathlib.Core.List.{List, [], _∷_}
 use native.Mathlib.Omega.{arith}
 use lib.ListN.{length}
 use lib.Dec.{eqb, ltb}
-use Rattle.s2xv2.specs.Read.{Need, needs, presentIn, endsOf, bodySize, shortTold, readTold, numberOf, readOf, tailOf}
+use Rattle.s2xv2.specs.Read.{Need, needs, presentIn, bodySize, shortTold, readTold, numberOf, readOf, tailOf}
 use Rattle.s2xv2.specs.declared.record.S2Xv2SatelliteDeliverySystem.{S2Xv2SatelliteDeliverySystem}
 use Rattle.s2xv2.specs.declared.superframe.S2Xv2Superframe.{S2Xv2Superframe}
 use Rattle.s2xv2.specs.declared.superframe.OptionSuperframe.{OptionSuperframe}
@@ -119,7 +119,7 @@ told-most : (s : List ℕ) → Most (readTold s) 4
 unfolding readTold
 told-most s =
     either (ltb 4096 (length s)) (record { le = omega arith })
-    (short-most (length s) (needs (endsOf s (presentIn s))) (0 ∷ bodySize s ∷ []) (record { le = omega arith }))
+    (short-most (length s) (needs s (presentIn s)) (0 ∷ bodySize s ∷ []) (record { le = omega arith }))
 
 refused-most : {told : List ℕ} → Most told 4 → Most (refusedOf told) 52
 unfolding refusedOf

@@ -1,11 +1,11 @@
--- `reader::refused` meets its contract: the refusal crosses as its numbers, with the default record.
+-- `reader::refused` meets its contract: the answer crosses as its numbers, with the default record.
 -- Assumes nothing.
 use borrow.Author.Needs.{needs}
 use Rattle.reader.proofs.refused.Statement.{statement}
 use Rattle.reader.proofs.refused.Tie as tie
 
-refusal-out-requires : tie.Need-refusal-out-requires
-refusal-out-requires c κs = search needs
+answer-out-requires : tie.Need-answer-out-requires
+answer-out-requires c κs = search needs
 
 default-requires : tie.Need-default-requires
 default-requires c κs = search needs
@@ -14,8 +14,8 @@ record-out-requires : tie.Need-record-out-requires
 record-out-requires c κs = search needs
 
 returns : tie.Need-returns
-returns c = simp (c .before .before .refusal-out .ensures, c .record-out .ensures, c .before .default .ensures)
+returns c = simp (c .before .before .answer-out .ensures, c .record-out .ensures, c .before .default .ensures)
 
 pub refused-spec : {M : Type 1} → statement M
 refused-spec =
-    tie.close (tie.spec refusal-out-requires default-requires record-out-requires returns)
+    tie.close (tie.spec answer-out-requires default-requires record-out-requires returns)

@@ -3,8 +3,10 @@
 use borrow.Author.Tests.{lt-ltb, le-ltb}
 use Rattle.lists.proofs.list_a.bonds_stray.Statement.{statement}
 use Rattle.lists.proofs.list_a.bonds_stray.Tie as tie
+
 returns : tie.Need-returns
 returns c = simp (lt-ltb _ _ (c .if1 .taken))
+
 returns-2 : tie.Need-returns-2
 returns-2 c = simp (le-ltb _ _ (c .if1 .left))
 

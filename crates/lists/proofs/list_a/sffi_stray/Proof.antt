@@ -3,14 +3,19 @@
 use borrow.Author.Needs.{needs}
 use Rattle.lists.proofs.list_a.sffi_stray.Statement.{statement}
 use Rattle.lists.proofs.list_a.sffi_stray.Tie as tie
+
 enum-known-superframe : tie.Need-enum-known-superframe
 enum-known-superframe c = search needs
+
 u8-stray-requires : tie.Need-u8-stray-requires
 u8-stray-requires c κs = search needs
+
 enum-told : tie.Need-enum-told
 enum-told c = search needs
+
 returns : tie.Need-returns
 returns c = simp (c .u8-stray .ensures, c .before .before .superframe .given .1)
+
 returns-2 : tie.Need-returns-2
 returns-2 c = search needs
 

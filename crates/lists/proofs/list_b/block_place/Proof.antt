@@ -3,18 +3,24 @@
 use borrow.Author.Needs.{needs}
 use Rattle.lists.proofs.list_b.block_place.Statement.{statement}
 use Rattle.lists.proofs.list_b.block_place.Tie as tie
+
 u8-missing-requires : tie.Need-u8-missing-requires
 u8-missing-requires c κs = search needs
+
 nibble-requires : tie.Need-nibble-requires
 nibble-requires c κs = search needs
+
 u32-missing-requires : tie.Need-u32-missing-requires
 u32-missing-requires c κs = search needs
+
 slice-aggregate-first-from : tie.Need-slice-aggregate-first-from
 slice-aggregate-first-from c = search needs
+
 first-from-requires : tie.Need-first-from-requires
 first-from-requires c κs = search needs
+
 returns : tie.Need-returns
-returns c = 
+returns c =
     simp (
       c .first-from .ensures,
       c .before .before .before .before .u32-missing .ensures,

@@ -3,44 +3,41 @@
 use borrow.Author.Needs.{needs}
 use Rattle.lists.proofs.list_b.parts_place.Statement.{statement}
 use Rattle.lists.proofs.list_b.parts_place.Tie as tie
+
 is-set-requires : tie.Need-is-set-requires
 is-set-requires c κs = search needs
+
 to-u8-requires : tie.Need-to-u8-requires
 to-u8-requires c κs = search needs
+
 reserved-1-wide-requires : tie.Need-reserved-1-wide-requires
 reserved-1-wide-requires c κs = search needs
+
 u32-missing-requires : tie.Need-u32-missing-requires
 u32-missing-requires c κs = search needs
+
 or-zero-requires : tie.Need-or-zero-requires
 or-zero-requires c κs = search needs
-both-requires : tie.Need-both-requires
-both-requires c κs = search needs
-both-requires-2 : tie.Need-both-requires-2
-both-requires-2 c κs = search needs
+
 less-one-requires : tie.Need-less-one-requires
 less-one-requires c κs = search needs
-both-requires-3 : tie.Need-both-requires-3
-both-requires-3 c κs = search needs
-both-requires-4 : tie.Need-both-requires-4
-both-requires-4 c κs = search needs
+
 slice-aggregate-first-from : tie.Need-slice-aggregate-first-from
 slice-aggregate-first-from c = search needs
+
 first-from-requires : tie.Need-first-from-requires
 first-from-requires c κs = search needs
+
 returns : tie.Need-returns
-returns c = 
+returns c =
     simp (
       c .first-from .ensures,
-      c .before .before .both4 .ensures,
-      c .before .before .before .before .both3 .ensures,
-      c .before .before .before .before .before .less-one .ensures,
-      c .before .before .before .before .before .before .both2 .ensures,
-      c .before .before .before .before .before .before .before .before .both .ensures,
-      c .before .before .before .before .before .before .before .before .before .or-zero .ensures,
-      c .before .before .before .before .before .before .before .before .before .before .u32-missing .ensures,
-      c .before .before .before .before .before .before .before .before .before .before .before .before .before .before .reserved-1-wide .ensures,
-      c .before .before .before .before .before .before .before .before .before .before .before .before .before .before .before .before .before .before .before .to-u8 .ensures,
-      c .before .before .before .before .before .before .before .before .before .before .before .before .before .before .before .before .before .before .before .before .before .is-set .ensures,
+      c .before .before .before .less-one .ensures,
+      c .before .before .before .before .before .or-zero .ensures,
+      c .before .before .before .before .before .before .u32-missing .ensures,
+      c .before .before .before .before .before .before .before .before .before .before .reserved-1-wide .ensures,
+      c .before .before .before .before .before .before .before .before .before .before .before .before .before .before .before .to-u8 .ensures,
+      c .before .before .before .before .before .before .before .before .before .before .before .before .before .before .before .before .before .is-set .ensures,
     )
 
 pub parts-place-spec : {M : Type 1} → statement M
@@ -52,11 +49,7 @@ parts-place-spec =
     reserved-1-wide-requires
     u32-missing-requires
     or-zero-requires
-    both-requires
-    both-requires-2
     less-one-requires
-    both-requires-3
-    both-requires-4
     slice-aggregate-first-from
     first-from-requires
     returns)

@@ -8,19 +8,23 @@ use Rattle.s2xv2.proofs.Lists.{first-append}
 use borrow.Author.Needs.{needs}
 use Rattle.lists.proofs.list_b.unwritable.Statement.{statement}
 use Rattle.lists.proofs.list_b.unwritable.Tie as tie
+
 parts-place-requires : tie.Need-parts-place-requires
 parts-place-requires c κs = search needs
+
 returns : tie.Need-returns
 unfolding unwritable
-returns c = 
+returns c =
     let r = c .before .before .args .r in
     c .before .parts-place .ensures
     ∙ sym (first-append 0 (coreB r ++ (scramblingB r ++ bondB r)) (superframeB (r .superframe)) ∙ simp (ne-eqb _ _ (λ z. c .if1 .taken (c .before .parts-place .ensures ∙ z))))
+
 superframe-place-requires : tie.Need-superframe-place-requires
 superframe-place-requires c κs = search needs
+
 returns-2 : tie.Need-returns-2
 unfolding unwritable
-returns-2 c = 
+returns-2 c =
     let r = c .before .before .before .args .r in
     c .superframe-place .ensures
     ∙ sym (first-append 0 (coreB r ++ (scramblingB r ++ bondB r)) (superframeB (r .superframe)) ∙ simp (eq-eqb _ _ (sym (c .before .before .parts-place .ensures) ∙ c .before .if1 .left)))

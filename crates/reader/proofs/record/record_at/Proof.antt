@@ -1,7 +1,6 @@
 -- `reader::record::record_at` meets its contract: the test says which block it is.
 -- Assumes nothing.
-use mathlib.Core.Path.{_∙_}
-use Rattle.reader.proofs.Flat.{flat-block, flat-record}
+use Rattle.reader.proofs.Flat.{flat-block}
 use borrow.Author.Needs.{needs}
 use Rattle.reader.proofs.record.record_at.Statement.{statement}
 use Rattle.reader.proofs.record.record_at.Tie as tie
@@ -13,7 +12,7 @@ record-of-requires : tie.Need-record-of-requires
 record-of-requires c κs = (c .before .before .before .pre, simp (c .before .if1 .taken, c .block-at .ensures, flat-block))
 
 returns : tie.Need-returns
-returns c = c .record-of .ensures ∙ flat-record _ _ _
+returns c = search needs
 
 no-block-requires : tie.Need-no-block-requires
 no-block-requires c κs = search needs
@@ -22,7 +21,7 @@ record-of-requires-2 : tie.Need-record-of-requires-2
 record-of-requires-2 c κs = (c .before .before .before .pre, simp (c .before .if1 .left, c .no-block .ensures))
 
 returns-2 : tie.Need-returns-2
-returns-2 c = c .record-of2 .ensures ∙ flat-record _ _ _
+returns-2 c = search needs
 
 pub record-at-spec : {M : Type 1} → statement M
 record-at-spec =

@@ -1,8 +1,8 @@
--- `reader::layout::ends_of` meets its contract: each sum is that of the definition.
+-- `layout::ends::ends_of` meets its contract: each sum is that of the definition.
 -- Assumes nothing.
 use borrow.Author.Needs.{needs}
-use Rattle.reader.proofs.layout.ends_of.Statement.{statement}
-use Rattle.reader.proofs.layout.ends_of.Tie as tie
+use Rattle.layout.proofs.ends.ends_of.Statement.{statement}
+use Rattle.layout.proofs.ends.ends_of.Tie as tie
 
 only-requires : tie.Need-only-requires
 only-requires c κs = search needs
