@@ -12,12 +12,12 @@ use Rattle.wire.specs.Parts.{Part, bytesOf, sizes}
 use Rattle.wire.proofs.Parts.{Whole, bytesOf-append, bytesOf-tail, sizes-append, length-bytesOf}
 use Rattle.s2xv2.specs.Table144b as T
 use Rattle.s2xv2.specs.Options.{orZero32, some32If}
-use Rattle.s2xv2.specs.ListB.{wide, scramblingB, superframeB}
+use Rattle.s2xv2.specs.ListB.{wide, coreB, scramblingB, bondB, superframeB, listB}
 use Rattle.s2xv2.specs.Encode.{lessOne, bondParts, scramblingParts, planParts, coreValues, streamOf, scramblingOf, timesliceOf, bondOf, superframeOf, partsOf, encode}
 use Rattle.s2xv2.specs.declared.record.S2Xv2SatelliteDeliverySystem.{S2Xv2SatelliteDeliverySystem}
 use Rattle.s2xv2.specs.declared.option.OptionU32.the-variants as O32
 use Rattle.s2xv2.specs.declared.superframe.OptionSuperframe.the-variants as OS
-use Rattle.s2xv2.proofs.Lists.{Clear, narrow}
+use Rattle.s2xv2.proofs.Lists.{Clear, clear-left, clear-right, narrow}
 use Rattle.s2xv2.proofs.Whole.{bond-size}
 use Rattle.wire.specs.Flags.{bit, isOne, and, not}
 use Rattle.flat.specs.Input.{blockIn, recordIn}
@@ -32,7 +32,11 @@ pub some-bond : (n : ℕ) → lessOne n < 2 → 1 ≤ n
 some-bond zero h = absurd (omega arith)
 some-bond (suc n) h = omega arith
 
-pub one-bond : (n : ℕ) → lessOne n < 2 → (n ≡ 2 → ⊥) → n ≡ 1
+pub two-bonds : (n : ℕ) → lessOne n ≡ 1 → n ≡ 2
+two-bonds zero e = absurd (omega arith)
+two-bonds (suc n) e = omega arith
+
+pub one-bond : (n : ℕ) → lessOne n < 2 → (lessOne n ≡ 1 → ⊥) → n ≡ 1
 one-bond zero h k = absurd (omega arith)
 one-bond (suc n) h k = omega (arith, k)
 
@@ -76,17 +80,18 @@ parts-split r =
       sizes-append (bondOf r) (superframeOf r),
     )
 
--- ---- parts of numbers that cross
+-- a list B of which no test holds, part by part
+pub clear-parts : (r : S2Xv2SatelliteDeliverySystem) → Clear (listB r) → Clear (coreB r) × Clear (scramblingB r) × Clear (bondB r) × Clear (superframeB (r .superframe))
+clear-parts r h =
+    let a = clear-right (coreB r) (scramblingB r ++ (bondB r ++ superframeB (r .superframe))) h in
+    let b = clear-right (scramblingB r) (bondB r ++ superframeB (r .superframe)) a in (
+      clear-left (coreB r) (scramblingB r ++ (bondB r ++ superframeB (r .superframe))) h,
+      clear-left (scramblingB r) (bondB r ++ superframeB (r .superframe)) a,
+      clear-left (bondB r) (superframeB (r .superframe)) b,
+      clear-right (bondB r) (superframeB (r .superframe)) b,
+    )
 
--- the id at the last place is the second where there are two
-pub bonds-same : (t : Bool) (r n l : ℕ) (ids : List ℕ) → l ≡ lessOne n % 2 → and t (wide 1 (lessOne n)) ≡ false
-    → bondParts t r n (getD ids 0 0 ∷ getD ids l 0 ∷ []) ≡ bondParts t r n ids
-unfolding bondParts
-bonds-same false r n l ids d e = refl
-bonds-same true r zero l ids d e = absurd (omega (arith, narrow 1 255 e))
-bonds-same true r (suc zero) l ids d e = refl
-bonds-same true r (suc (suc zero)) l ids d e = rw d refl
-bonds-same true r (suc (suc (suc n))) l ids d e = absurd (omega (arith, narrow 1 (suc (suc n)) e))
+-- ---- parts of numbers that cross
 
 -- the index is there where both flags ask for it
 pub scrambling-same : (c : FlatRecord) (m : ℕ) → m ≡ bit (and (isOne (c .«has_scrambling_sequence_selector»)) (isOne (c .«scrambling_sequence_selector»))) → Clear (scramblingB (recordIn c))

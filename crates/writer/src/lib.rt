@@ -15,7 +15,6 @@ ghost use Rattle.flat.specs.Output.{answerOut};
 ghost use Rattle.writer.specs.Flagged.{Flagged};
 ghost use Rattle.writer.specs.Checks.{Ready};
 use crate::checks::is_checked;
-use crate::flag::both;
 use flat::input::is_valid;
 use flat::input::record_in;
 use flat::output::answer_of;
@@ -25,7 +24,6 @@ use flat::output::record_out;
 use flat::types::FlatAnswer;
 use flat::types::FlatRecord;
 use lists::list_a::inconsistency;
-use lists::list_b::less_one;
 use lists::list_b::unwritable;
 use s2xv2::answer::Answer;
 use s2xv2::answer::Refusal;
@@ -78,29 +76,9 @@ fn put_all(buf: &mut [u8], c: FlatRecord, tail: &[u8])
         c.has_input_stream_identifier,
         c.input_stream_identifier,
     );
-    let scrambled = both(
-        c.has_scrambling_sequence_selector,
-        c.scrambling_sequence_selector,
-    );
-    let p2 = parts::put_scrambling(
-        buf,
-        p1,
-        scrambled,
-        c.reserved_zero_future_use_6,
-        c.scrambling_sequence_index,
-    );
+    let p2 = parts::put_scrambling(buf, p1, c);
     let p3 = parts::put_byte(buf, p2, c.has_timeslice_number, c.timeslice_number);
-    // the place of the last id
-    let last = (less_one(c.num_channel_bonds) % 2) as usize;
-    let p4 = parts::put_bonds(
-        buf,
-        p3,
-        c.channel_bond,
-        c.reserved_zero_future_use_7,
-        c.num_channel_bonds,
-        c.secondary_delivery_system_ids[0],
-        c.secondary_delivery_system_ids[last],
-    );
+    let p4 = parts::put_bonds(buf, p3, c);
     let superframe = c.superframe;
     let p5 = parts::put_superframe(buf, p4, c.has_superframe, superframe);
     store::copy(buf, p5, tail);

@@ -20,7 +20,7 @@ refused-requires : tie.Need-refused-requires
 refused-requires c κs = search needs
 
 returns : tie.Need-returns
-returns c = 
+returns c =
     let s = now (c .before .before .before .before .args .sel) in
     c .refused .ensures ∙ sym (ap flatSeen (reads-refused s (Long (c .before .saturated .result)) (rw (c .before .saturated .ensures) (sym (told-long s (c .before .before .if1 .taken))))))
 
@@ -38,7 +38,7 @@ refused-requires-2 c κs = search needs
 
 returns-2 : tie.Need-returns-2
 unfolding bodySize
-returns-2 c = 
+returns-2 c =
     let s = now (c .before .before .before .before .before .before .before .args .sel) in
     let e = simp (c .before .before .before .ends-of .ensures, c .before .before .before .before .present-in .ensures) at (c .before .missing .ensures) in
     let h = rw (c .before .before .before .ends-of .ensures, c .before .before .before .before .present-in .ensures) at (c .before .before .if2 .taken) in
@@ -48,14 +48,14 @@ answer-of-requires : tie.Need-answer-of-requires
 answer-of-requires c κs = search needs
 
 record-at-requires : tie.Need-record-at-requires
-record-at-requires c κs = 
+record-at-requires c κs =
     let s = now (c .before .before .before .before .before .before .args .sel) in
     rw (c .before .before .ends-of .ensures, c .before .before .before .present-in .ensures)
     (reached s _ (rw (c .before .before .ends-of .ensures, c .before .before .before .present-in .ensures) at (c .before .if2 .left)))
 
 returns-3 : tie.Need-returns-3
 unfolding bodySize
-returns-3 c = 
+returns-3 c =
     let s = now (c .before .before .before .before .before .before .before .args .sel) in
     let h = rw (c .before .before .before .ends-of .ensures, c .before .before .before .before .present-in .ensures) at (c .before .before .if2 .left) in
     simp (c .record-at .ensures, c .before .answer-of .ensures, c .before .before .before .ends-of .ensures, c .before .before .before .before .present-in .ensures, flat-record s (presentNow s)) (sym (ap flatSeen (reads-accepted s h (c .before .before .before .before .before .if1 .left))))

@@ -2,19 +2,16 @@
 -- Assumes nothing.
 use mathlib.Core.Path.{refl, sym, ap, _∙_}
 use mathlib.Core.List.{_++_}
-use Prim.Native.Nat.{ℕ, _%_}
+use Prim.Native.Nat.{ℕ}
 use native.Mathlib.Omega.{arith}
 use lib.ListN.{drop}
-use lib.Dec.{eqb}
 use denote.Ref.{now}
 use Rattle.wire.specs.Store.{stored}
 use Rattle.wire.proofs.Stores.{run, stored-front}
 use Rattle.s2xv2.specs.Encode.{streamOf, scramblingOf, timesliceOf, bondOf, superframeOf, encode, encodedLength}
-use Rattle.s2xv2.specs.ListB.{coreB, scramblingB, bondB, superframeB}
-use Rattle.s2xv2.proofs.Lists.{clear-left, clear-right}
 use Rattle.s2xv2.proofs.Whole.{whole-byte, whole-scrambling, whole-bond, whole-superframe, encode-length}
 use Rattle.flat.specs.Input.{recordIn}
-use Rattle.writer.proofs.Laws.{length-alone, encode-parts, parts-split, scrambling-same, scrambling-narrow, bonds-same}
+use Rattle.writer.proofs.Laws.{length-alone, encode-parts, parts-split, clear-parts}
 use borrow.Author.Needs.{needs}
 use Rattle.writer.proofs.put_all.Statement.{statement}
 use Rattle.writer.proofs.put_all.Tie as tie
@@ -22,98 +19,70 @@ use Rattle.writer.proofs.put_all.Tie as tie
 put-core-requires : tie.Need-put-core-requires
 unfolding encodedLength
 put-core-requires c κs =
-    let r = recordIn (c .before .before .before .args .t2) in (
-      omega (arith, parts-split r, c .before .before .before .pre .0),
-      (c .before .before .before .pre .1 .0, clear-left (coreB r) (scramblingB r ++ (bondB r ++ superframeB (r .superframe))) (c .before .before .before .pre .1 .1)),
-    )
+    let r = recordIn (c .before .before .before .args .c) in
+    (omega (arith, parts-split r, c .before .before .before .pre .0), (c .before .before .before .pre .1 .0, clear-parts r (c .before .before .before .pre .1 .1) .0))
 
 put-byte-requires : tie.Need-put-byte-requires
 unfolding encodedLength
 put-byte-requires c κs =
-    let r = recordIn (c .before .before .before .before .before .before .before .args .t2) in
+    let r = recordIn (c .before .before .before .before .before .before .before .args .c) in
     omega (arith, parts-split r, c .before .before .before .before .before .before .before .pre .0, c .before .before .before .put-core .kept .0)
-
-both-requires : tie.Need-both-requires
-both-requires c κs = search needs
 
 put-scrambling-requires : tie.Need-put-scrambling-requires
 unfolding encodedLength
 put-scrambling-requires c κs =
-    let r = recordIn (c .before .before .before .before .before .before .before .before .before .before .before .before .args .t2) in
-    let b = clear-right (coreB r) (scramblingB r ++ (bondB r ++ superframeB (r .superframe))) (c .before .before .before .before .before .before .before .before .before .before .before .before .pre .1 .1) in
-    rw (scrambling-same (c .before .before .before .before .before .before .before .before .before .before .before .before .args .t2) _ (c .before .both .ensures .0) (b .0, (b .1 .0, (b .1 .1 .0, tt)))) (omega (arith, parts-split r, c .before .before .before .before .before .before .before .before .before .before .before .before .pre .0, c .before .before .before .before .before .before .before .before .put-core .kept .0, c .before .before .before .before .put-byte .kept .0, c .before .before .before .before .put-byte .ensures .0), scrambling-narrow (c .before .before .before .before .before .before .before .before .before .before .before .before .args .t2) _ (c .before .both .ensures .0) (b .0, (b .1 .0, (b .1 .1 .0, tt))))
+    let r = recordIn (c .before .before .before .before .before .before .before .before .before .before .before .args .c) in
+    (omega (arith, parts-split r, c .before .before .before .before .before .before .before .before .before .before .before .pre .0, c .before .before .before .before .before .before .before .put-core .kept .0, c .before .before .before .put-byte .kept .0, c .before .before .before .put-byte .ensures .0), (c .before .before .before .before .before .before .before .before .before .before .before .pre .1 .0, clear-parts r (c .before .before .before .before .before .before .before .before .before .before .before .pre .1 .1) .1))
 
 put-byte-requires-2 : tie.Need-put-byte-requires-2
 unfolding encodedLength
 put-byte-requires-2 c κs =
-    let r = recordIn (c .before .before .before .before .before .before .before .before .before .before .before .before .before .before .before .before .args .t2) in
-    let b = clear-right (coreB r) (scramblingB r ++ (bondB r ++ superframeB (r .superframe))) (c .before .before .before .before .before .before .before .before .before .before .before .before .before .before .before .before .pre .1 .1) in
-    omega (arith, parts-split r, c .before .before .before .before .before .before .before .before .before .before .before .before .before .before .before .before .pre .0, c .before .before .before .before .before .before .before .before .before .before .before .before .put-core .kept .0, c .before .before .before .before .before .before .before .before .put-byte .kept .0, c .before .before .before .before .before .before .before .before .put-byte .ensures .0, c .before .before .before .put-scrambling .kept .0, rw (scrambling-same (c .before .before .before .before .before .before .before .before .before .before .before .before .before .before .before .before .args .t2) _ (c .before .before .before .before .before .both .ensures .0) (b .0, (b .1 .0, (b .1 .1 .0, tt)))) at (c .before .before .before .put-scrambling .ensures .0))
-
-less-one-requires : tie.Need-less-one-requires
-less-one-requires c κs = search needs
-
-cast-last : tie.Need-cast-last
-cast-last c = search needs
-
-element-copy-out-put-bonds : tie.Need-element-copy-out-put-bonds
-element-copy-out-put-bonds c = search needs
-
-mul-put-bonds : tie.Need-mul-put-bonds
-mul-put-bonds c = search needs
-
-element-copy-out-put-bonds-2 : tie.Need-element-copy-out-put-bonds-2
-element-copy-out-put-bonds-2 c = search needs
+    let r = recordIn (c .before .before .before .before .before .before .before .before .before .before .before .before .before .before .before .args .c) in
+    omega (arith, parts-split r, c .before .before .before .before .before .before .before .before .before .before .before .before .before .before .before .pre .0, c .before .before .before .before .before .before .before .before .before .before .before .put-core .kept .0, c .before .before .before .before .before .before .before .put-byte .kept .0, c .before .before .before .before .before .before .before .put-byte .ensures .0, c .before .before .before .put-scrambling .kept .0, c .before .before .before .put-scrambling .ensures .0)
 
 put-bonds-requires : tie.Need-put-bonds-requires
 unfolding encodedLength
 put-bonds-requires c κs =
-    let r = recordIn (c .before .before .before .before .before .before .before .before .before .before .before .before .before .before .before .before .before .before .before .before .before .before .before .args .t2) in
-    let b = clear-right (coreB r) (scramblingB r ++ (bondB r ++ superframeB (r .superframe))) (c .before .before .before .before .before .before .before .before .before .before .before .before .before .before .before .before .before .before .before .before .before .before .before .pre .1 .1) in
-    (rw (bonds-same (eqb (c .before .before .before .before .before .before .before .before .before .before .before .before .before .before .before .before .before .before .before .before .before .before .before .args .t2 .«channel_bond») 1) (c .before .before .before .before .before .before .before .before .before .before .before .before .before .before .before .before .before .before .before .before .before .before .before .args .t2 .«reserved_zero_future_use_7») (c .before .before .before .before .before .before .before .before .before .before .before .before .before .before .before .before .before .before .before .before .before .before .before .args .t2 .«num_channel_bonds») _ (c .before .before .before .before .before .before .before .before .before .before .before .before .before .before .before .before .before .before .before .before .before .before .before .args .t2 .«secondary_delivery_system_ids») (ap (λ (k : ℕ). k % 2) (c .before .before .before .less-one .ensures)) (b .1 .1 .1 .0)) (omega (arith, parts-split r, c .before .before .before .before .before .before .before .before .before .before .before .before .before .before .before .before .before .before .before .before .before .before .before .pre .0, c .before .before .before .before .before .before .before .before .before .before .before .before .before .before .before .before .before .before .before .put-core .kept .0, c .before .before .before .before .before .before .before .before .before .before .before .before .before .before .before .put-byte .kept .0, c .before .before .before .before .before .before .before .before .before .before .before .before .before .before .before .put-byte .ensures .0, c .before .before .before .before .before .before .before .before .before .before .put-scrambling .kept .0, rw (scrambling-same (c .before .before .before .before .before .before .before .before .before .before .before .before .before .before .before .before .before .before .before .before .before .before .before .args .t2) _ (c .before .before .before .before .before .before .before .before .before .before .before .before .both .ensures .0) (b .0, (b .1 .0, (b .1 .1 .0, tt)))) at (c .before .before .before .before .before .before .before .before .before .before .put-scrambling .ensures .0), c .before .before .before .before .before .before .put-byte2 .kept .0, c .before .before .before .before .before .before .put-byte2 .ensures .0)), (b .1 .1 .1 .0, b .1 .1 .1 .1 .0))
+    let r = recordIn (c .before .before .before .before .before .before .before .before .before .before .before .before .before .before .before .before .before .before .before .args .c) in
+    (omega (arith, parts-split r, c .before .before .before .before .before .before .before .before .before .before .before .before .before .before .before .before .before .before .before .pre .0, c .before .before .before .before .before .before .before .before .before .before .before .before .before .before .before .put-core .kept .0, c .before .before .before .before .before .before .before .before .before .before .before .put-byte .kept .0, c .before .before .before .before .before .before .before .before .before .before .before .put-byte .ensures .0, c .before .before .before .before .before .before .before .put-scrambling .kept .0, c .before .before .before .before .before .before .before .put-scrambling .ensures .0, c .before .before .before .put-byte2 .kept .0, c .before .before .before .put-byte2 .ensures .0), clear-parts r (c .before .before .before .before .before .before .before .before .before .before .before .before .before .before .before .before .before .before .before .pre .1 .1) .2)
 
 put-superframe-requires : tie.Need-put-superframe-requires
 unfolding encodedLength
 put-superframe-requires c κs =
-    let r = recordIn (c .before .before .before .before .before .before .before .before .before .before .before .before .before .before .before .before .before .before .before .before .before .before .before .before .before .before .before .before .args .t2) in
-    let b = clear-right (coreB r) (scramblingB r ++ (bondB r ++ superframeB (r .superframe))) (c .before .before .before .before .before .before .before .before .before .before .before .before .before .before .before .before .before .before .before .before .before .before .before .before .before .before .before .before .pre .1 .1) in
-    (omega (arith, parts-split r, c .before .before .before .before .before .before .before .before .before .before .before .before .before .before .before .before .before .before .before .before .before .before .before .before .before .before .before .before .pre .0, c .before .before .before .before .before .before .before .before .before .before .before .before .before .before .before .before .before .before .before .before .before .before .before .before .put-core .kept .0, c .before .before .before .before .before .before .before .before .before .before .before .before .before .before .before .before .before .before .before .before .put-byte .kept .0, c .before .before .before .before .before .before .before .before .before .before .before .before .before .before .before .before .before .before .before .before .put-byte .ensures .0, c .before .before .before .before .before .before .before .before .before .before .before .before .before .before .before .put-scrambling .kept .0, rw (scrambling-same (c .before .before .before .before .before .before .before .before .before .before .before .before .before .before .before .before .before .before .before .before .before .before .before .before .before .before .before .before .args .t2) _ (c .before .before .before .before .before .before .before .before .before .before .before .before .before .before .before .before .before .both .ensures .0) (b .0, (b .1 .0, (b .1 .1 .0, tt)))) at (c .before .before .before .before .before .before .before .before .before .before .before .before .before .before .before .put-scrambling .ensures .0), c .before .before .before .before .before .before .before .before .before .before .before .put-byte2 .kept .0, c .before .before .before .before .before .before .before .before .before .before .before .put-byte2 .ensures .0, c .before .before .before .before .put-bonds .kept .0, rw (bonds-same (eqb (c .before .before .before .before .before .before .before .before .before .before .before .before .before .before .before .before .before .before .before .before .before .before .before .before .before .before .before .before .args .t2 .«channel_bond») 1) (c .before .before .before .before .before .before .before .before .before .before .before .before .before .before .before .before .before .before .before .before .before .before .before .before .before .before .before .before .args .t2 .«reserved_zero_future_use_7») (c .before .before .before .before .before .before .before .before .before .before .before .before .before .before .before .before .before .before .before .before .before .before .before .before .before .before .before .before .args .t2 .«num_channel_bonds») _ (c .before .before .before .before .before .before .before .before .before .before .before .before .before .before .before .before .before .before .before .before .before .before .before .before .before .before .before .before .args .t2 .«secondary_delivery_system_ids») (ap (λ (k : ℕ). k % 2) (c .before .before .before .before .before .before .before .before .less-one .ensures)) (b .1 .1 .1 .0)) at (c .before .before .before .before .put-bonds .ensures .0)), (c .before .before .before .before .before .before .before .before .before .before .before .before .before .before .before .before .before .before .before .before .before .before .before .before .before .before .before .before .pre .1 .0 .block, b .1 .1 .1 .1 .1))
+    let r = recordIn (c .before .before .before .before .before .before .before .before .before .before .before .before .before .before .before .before .before .before .before .before .before .before .before .before .args .c) in
+    (omega (arith, parts-split r, c .before .before .before .before .before .before .before .before .before .before .before .before .before .before .before .before .before .before .before .before .before .before .before .before .pre .0, c .before .before .before .before .before .before .before .before .before .before .before .before .before .before .before .before .before .before .before .before .put-core .kept .0, c .before .before .before .before .before .before .before .before .before .before .before .before .before .before .before .before .put-byte .kept .0, c .before .before .before .before .before .before .before .before .before .before .before .before .before .before .before .before .put-byte .ensures .0, c .before .before .before .before .before .before .before .before .before .before .before .before .put-scrambling .kept .0, c .before .before .before .before .before .before .before .before .before .before .before .before .put-scrambling .ensures .0, c .before .before .before .before .before .before .before .before .put-byte2 .kept .0, c .before .before .before .before .before .before .before .before .put-byte2 .ensures .0, c .before .before .before .before .put-bonds .kept .0, c .before .before .before .before .put-bonds .ensures .0), (c .before .before .before .before .before .before .before .before .before .before .before .before .before .before .before .before .before .before .before .before .before .before .before .before .pre .1 .0 .block, clear-parts r (c .before .before .before .before .before .before .before .before .before .before .before .before .before .before .before .before .before .before .before .before .before .before .before .before .pre .1 .1) .3))
 
 copy-requires : tie.Need-copy-requires
 unfolding encodedLength
 copy-requires c κs =
-    let r = recordIn (c .before .before .before .before .before .before .before .before .before .before .before .before .before .before .before .before .before .before .before .before .before .before .before .before .before .before .before .before .before .before .before .before .args .t2) in
-    let b = clear-right (coreB r) (scramblingB r ++ (bondB r ++ superframeB (r .superframe))) (c .before .before .before .before .before .before .before .before .before .before .before .before .before .before .before .before .before .before .before .before .before .before .before .before .before .before .before .before .before .before .before .before .pre .1 .1) in
-    omega (arith, parts-split r, c .before .before .before .before .before .before .before .before .before .before .before .before .before .before .before .before .before .before .before .before .before .before .before .before .before .before .before .before .before .before .before .before .pre .0, c .before .before .before .before .before .before .before .before .before .before .before .before .before .before .before .before .before .before .before .before .before .before .before .before .before .before .before .before .put-core .kept .0, c .before .before .before .before .before .before .before .before .before .before .before .before .before .before .before .before .before .before .before .before .before .before .before .before .put-byte .kept .0, c .before .before .before .before .before .before .before .before .before .before .before .before .before .before .before .before .before .before .before .before .before .before .before .before .put-byte .ensures .0, c .before .before .before .before .before .before .before .before .before .before .before .before .before .before .before .before .before .before .before .put-scrambling .kept .0, rw (scrambling-same (c .before .before .before .before .before .before .before .before .before .before .before .before .before .before .before .before .before .before .before .before .before .before .before .before .before .before .before .before .before .before .before .before .args .t2) _ (c .before .before .before .before .before .before .before .before .before .before .before .before .before .before .before .before .before .before .before .before .before .both .ensures .0) (b .0, (b .1 .0, (b .1 .1 .0, tt)))) at (c .before .before .before .before .before .before .before .before .before .before .before .before .before .before .before .before .before .before .before .put-scrambling .ensures .0), c .before .before .before .before .before .before .before .before .before .before .before .before .before .before .before .put-byte2 .kept .0, c .before .before .before .before .before .before .before .before .before .before .before .before .before .before .before .put-byte2 .ensures .0, c .before .before .before .before .before .before .before .before .put-bonds .kept .0, rw (bonds-same (eqb (c .before .before .before .before .before .before .before .before .before .before .before .before .before .before .before .before .before .before .before .before .before .before .before .before .before .before .before .before .before .before .before .before .args .t2 .«channel_bond») 1) (c .before .before .before .before .before .before .before .before .before .before .before .before .before .before .before .before .before .before .before .before .before .before .before .before .before .before .before .before .before .before .before .before .args .t2 .«reserved_zero_future_use_7») (c .before .before .before .before .before .before .before .before .before .before .before .before .before .before .before .before .before .before .before .before .before .before .before .before .before .before .before .before .before .before .before .before .args .t2 .«num_channel_bonds») _ (c .before .before .before .before .before .before .before .before .before .before .before .before .before .before .before .before .before .before .before .before .before .before .before .before .before .before .before .before .before .before .before .before .args .t2 .«secondary_delivery_system_ids») (ap (λ (k : ℕ). k % 2) (c .before .before .before .before .before .before .before .before .before .before .before .before .less-one .ensures)) (b .1 .1 .1 .0)) at (c .before .before .before .before .before .before .before .before .put-bonds .ensures .0), c .before .before .before .put-superframe .kept .0, c .before .before .before .put-superframe .ensures .0)
+    let r = recordIn (c .before .before .before .before .before .before .before .before .before .before .before .before .before .before .before .before .before .before .before .before .before .before .before .before .before .before .before .before .args .c) in
+    omega (arith, parts-split r, c .before .before .before .before .before .before .before .before .before .before .before .before .before .before .before .before .before .before .before .before .before .before .before .before .before .before .before .before .pre .0, c .before .before .before .before .before .before .before .before .before .before .before .before .before .before .before .before .before .before .before .before .before .before .before .before .put-core .kept .0, c .before .before .before .before .before .before .before .before .before .before .before .before .before .before .before .before .before .before .before .before .put-byte .kept .0, c .before .before .before .before .before .before .before .before .before .before .before .before .before .before .before .before .before .before .before .before .put-byte .ensures .0, c .before .before .before .before .before .before .before .before .before .before .before .before .before .before .before .before .put-scrambling .kept .0, c .before .before .before .before .before .before .before .before .before .before .before .before .before .before .before .before .put-scrambling .ensures .0, c .before .before .before .before .before .before .before .before .before .before .before .before .put-byte2 .kept .0, c .before .before .before .before .before .before .before .before .before .before .before .before .put-byte2 .ensures .0, c .before .before .before .before .before .before .before .before .put-bonds .kept .0, c .before .before .before .before .before .before .before .before .put-bonds .ensures .0, c .before .before .before .put-superframe .kept .0, c .before .before .before .put-superframe .ensures .0)
 
 same-length : tie.Need-same-length
-same-length c = omega (arith, c .before .before .before .before .before .before .before .before .before .before .before .before .before .before .before .before .before .before .before .before .before .before .before .before .before .before .before .before .before .before .before .put-core .kept .0, c .before .before .before .before .before .before .before .before .before .before .before .before .before .before .before .before .before .before .before .before .before .before .before .before .before .before .before .put-byte .kept .0, c .before .before .before .before .before .before .before .before .before .before .before .before .before .before .before .before .before .before .before .before .before .before .put-scrambling .kept .0, c .before .before .before .before .before .before .before .before .before .before .before .before .before .before .before .before .before .before .put-byte2 .kept .0, c .before .before .before .before .before .before .before .before .before .before .before .put-bonds .kept .0, c .before .before .before .before .before .before .put-superframe .kept .0, c .before .before .copy .kept .0)
+same-length c = omega (arith, c .before .before .before .before .before .before .before .before .before .before .before .before .before .before .before .before .before .before .before .before .before .before .before .before .before .before .before .put-core .kept .0, c .before .before .before .before .before .before .before .before .before .before .before .before .before .before .before .before .before .before .before .before .before .before .before .put-byte .kept .0, c .before .before .before .before .before .before .before .before .before .before .before .before .before .before .before .before .before .before .before .put-scrambling .kept .0, c .before .before .before .before .before .before .before .before .before .before .before .before .before .before .before .put-byte2 .kept .0, c .before .before .before .before .before .before .before .before .before .before .before .put-bonds .kept .0, c .before .before .before .before .before .before .put-superframe .kept .0, c .before .before .copy .kept .0)
 
 returns : tie.Need-returns
 returns c =
-    let r = recordIn (c .before .before .before .before .before .before .before .before .before .before .before .before .before .before .before .before .before .before .before .before .before .before .before .before .before .before .before .before .before .before .before .before .before .before .before .args .t2) in
-    let b = clear-right (coreB r) (scramblingB r ++ (bondB r ++ superframeB (r .superframe))) (c .before .before .before .before .before .before .before .before .before .before .before .before .before .before .before .before .before .before .before .before .before .before .before .before .before .before .before .before .before .before .before .before .before .before .before .pre .1 .1) in
-    let a = c .before .before .before .before .before .before .before .before .before .before .before .before .before .before .before .before .before .before .before .before .before .before .before .before .before .before .before .before .before .before .before .before .before .before .before .args in
+    let r = recordIn (c .before .before .before .before .before .before .before .before .before .before .before .before .before .before .before .before .before .before .before .before .before .before .before .before .before .before .before .before .before .before .before .args .c) in
+    let a = c .before .before .before .before .before .before .before .before .before .before .before .before .before .before .before .before .before .before .before .before .before .before .before .before .before .before .before .before .before .before .before .args in
     let t = now (a .tail) in
-    let e₁ = c .before .before .before .before .before .before .before .before .before .before .before .before .before .before .before .before .before .before .before .before .before .before .before .before .before .before .before .before .before .before .before .put-core .ensures in
-    let e₂ = c .before .before .before .before .before .before .before .before .before .before .before .before .before .before .before .before .before .before .before .before .before .before .before .before .before .before .before .put-byte .ensures in
-    let e₃ = rw (scrambling-same (c .before .before .before .before .before .before .before .before .before .before .before .before .before .before .before .before .before .before .before .before .before .before .before .before .before .before .before .before .before .before .before .before .before .before .before .args .t2) _ (c .before .before .before .before .before .before .before .before .before .before .before .before .before .before .before .before .before .before .before .before .before .before .before .before .both .ensures .0) (b .0, (b .1 .0, (b .1 .1 .0, tt)))) at (c .before .before .before .before .before .before .before .before .before .before .before .before .before .before .before .before .before .before .before .before .before .before .put-scrambling .ensures) in
-    let e₄ = c .before .before .before .before .before .before .before .before .before .before .before .before .before .before .before .before .before .before .put-byte2 .ensures in
-    let e₅ = rw (bonds-same (eqb (c .before .before .before .before .before .before .before .before .before .before .before .before .before .before .before .before .before .before .before .before .before .before .before .before .before .before .before .before .before .before .before .before .before .before .before .args .t2 .«channel_bond») 1) (c .before .before .before .before .before .before .before .before .before .before .before .before .before .before .before .before .before .before .before .before .before .before .before .before .before .before .before .before .before .before .before .before .before .before .before .args .t2 .«reserved_zero_future_use_7») (c .before .before .before .before .before .before .before .before .before .before .before .before .before .before .before .before .before .before .before .before .before .before .before .before .before .before .before .before .before .before .before .before .before .before .before .args .t2 .«num_channel_bonds») _ (c .before .before .before .before .before .before .before .before .before .before .before .before .before .before .before .before .before .before .before .before .before .before .before .before .before .before .before .before .before .before .before .before .before .before .before .args .t2 .«secondary_delivery_system_ids») (ap (λ (k : ℕ). k % 2) (c .before .before .before .before .before .before .before .before .before .before .before .before .before .before .before .less-one .ensures)) (b .1 .1 .1 .0)) at (c .before .before .before .before .before .before .before .before .before .before .before .put-bonds .ensures) in
+    let e₂ = c .before .before .before .before .before .before .before .before .before .before .before .before .before .before .before .before .before .before .before .before .before .before .before .put-byte .ensures in
+    let e₃ = c .before .before .before .before .before .before .before .before .before .before .before .before .before .before .before .before .before .before .before .put-scrambling .ensures in
+    let e₄ = c .before .before .before .before .before .before .before .before .before .before .before .before .before .before .before .put-byte2 .ensures in
+    let e₅ = c .before .before .before .before .before .before .before .before .before .before .before .put-bonds .ensures in
     let e₆ = c .before .before .before .before .before .before .put-superframe .ensures in
-    let e₇ = c .before .before .copy .ensures in
     let l = encode-length r t in
-    run _ _ _ _ _ e₁
+    run _ _ _ _ _ (c .before .before .before .before .before .before .before .before .before .before .before .before .before .before .before .before .before .before .before .before .before .before .before .before .before .before .before .put-core .ensures)
     (run _ _ _ _ _ (e₂ .1)
     (run _ _ _ _ _ (e₃ .1)
     (run _ _ _ _ _ (e₄ .1)
-    (run _ _ _ _ _ (e₅ .1) (run _ _ _ _ _ (e₆ .1) e₇ (omega (arith, e₆ .0, length-alone (superframeOf r) (whole-superframe _)))) (omega (arith, e₅ .0, length-alone (bondOf r) (whole-bond _ _ _ _))))
+    (run _ _ _ _ _ (e₅ .1) (run _ _ _ _ _ (e₆ .1) (c .before .before .copy .ensures) (omega (arith, e₆ .0, length-alone (superframeOf r) (whole-superframe _)))) (omega (arith, e₅ .0, length-alone (bondOf r) (whole-bond _ _ _ _))))
     (omega (arith, e₄ .0, length-alone (timesliceOf r) (whole-byte _))))
     (omega (arith, e₃ .0, length-alone (scramblingOf r) (whole-scrambling _ _ _))))
     (omega (arith, e₂ .0, length-alone (streamOf r) (whole-byte _))))
     refl
     ∙ ap (stored (now (a .buf)) 0) (sym (encode-parts r t))
-    ∙ stored-front (now (a .buf)) (encode r t) (omega (arith, l, c .before .before .before .before .before .before .before .before .before .before .before .before .before .before .before .before .before .before .before .before .before .before .before .before .before .before .before .before .before .before .before .before .before .before .before .pre .0))
+    ∙ stored-front (now (a .buf)) (encode r t) (omega (arith, l, c .before .before .before .before .before .before .before .before .before .before .before .before .before .before .before .before .before .before .before .before .before .before .before .before .before .before .before .before .before .before .before .pre .0))
     ∙ ap (λ (k : ℕ). encode r t ++ drop k (now (a .buf))) l
 
 pub put-all-spec : {M : Type 1} → statement M
@@ -122,14 +91,8 @@ put-all-spec =
     (tie.spec
     put-core-requires
     put-byte-requires
-    both-requires
     put-scrambling-requires
     put-byte-requires-2
-    less-one-requires
-    cast-last
-    element-copy-out-put-bonds
-    mul-put-bonds
-    element-copy-out-put-bonds-2
     put-bonds-requires
     put-superframe-requires
     copy-requires

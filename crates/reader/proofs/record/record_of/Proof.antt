@@ -113,7 +113,7 @@ bit-of-requires-10 c κs = search needs
 
 returns : tie.Need-returns
 unfolding flatRecordAt
-returns c = 
+returns c =
     simp (
       c .bit-of10 .ensures .0,
       c .before .bit-of9 .ensures .0,

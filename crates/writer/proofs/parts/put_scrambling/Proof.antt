@@ -10,17 +10,23 @@ use Rattle.wire.specs.Widths.{be}
 use borrow.Author.Tests.{eq-eqb, ne-eqb}
 use Rattle.s2xv2.proofs.Lists.{narrow-if}
 use Rattle.s2xv2.specs.Encode.{scramblingParts}
+use Rattle.writer.proofs.Laws.{scrambling-same, scrambling-narrow}
 use borrow.Author.Needs.{needs}
 use Rattle.writer.proofs.parts.put_scrambling.Statement.{statement}
 use Rattle.writer.proofs.parts.put_scrambling.Tie as tie
 
+both-requires : tie.Need-both-requires
+both-requires c κs = search needs
+
 index-word-requires : tie.Need-index-word-requires
-index-word-requires c κs = (narrow-if _ 6 _ (c .before .before .before .pre .1 .1) (eq-eqb _ _ (c .before .if1 .taken)), narrow-if _ 18 _ (c .before .before .before .pre .1 .0) (eq-eqb _ _ (c .before .if1 .taken)))
+index-word-requires c κs =
+    let n = scrambling-narrow (c .before .before .before .before .args .c) _ (c .before .before .both .ensures .0) (c .before .before .before .before .pre .1 .1) in
+    (narrow-if _ 6 _ (n .1) (eq-eqb _ _ (c .before .if1 .taken)), narrow-if _ 18 _ (n .0) (eq-eqb _ _ (c .before .if1 .taken)))
 
 put-24-requires : tie.Need-put-24-requires
 unfolding scramblingParts
 put-24-requires c κs =
-    let h = rw (eq-eqb _ _ (c .before .before .if1 .taken)) at (c .before .before .before .before .pre .0) in
+    let h = rw (← scrambling-same (c .before .before .before .before .before .args .c) _ (c .before .before .before .both .ensures .0) (c .before .before .before .before .before .pre .1 .1), eq-eqb _ _ (c .before .before .if1 .taken)) at (c .before .before .before .before .before .pre .0) in
     omega arith
 
 add-result : tie.Need-add-result
@@ -31,13 +37,22 @@ same-length c = search needs
 
 returns : tie.Need-returns
 unfolding scramblingParts
-returns c = rw (eq-eqb _ _ (c .before .before .before .before .before .if1 .taken)) (refl, c .before .before .put-24 .ensures ∙ ap (λ (k : ℕ). stored (now (c .before .before .before .before .before .before .before .args .buf)) (c .before .before .before .before .before .before .before .args .p) (be 3 k)) (c .before .before .before .index-word .ensures))
+returns c =
+    rw (← scrambling-same (c .before .before .before .before .before .before .before .before .args .c) _ (c .before .before .before .before .before .before .both .ensures .0) (c .before .before .before .before .before .before .before .before .pre .1 .1), eq-eqb _ _ (c .before .before .before .before .before .if1 .taken))
+    (refl, c .before .before .put-24 .ensures ∙ ap (λ (k : ℕ). stored (now (c .before .before .before .before .before .before .before .before .args .buf)) (c .before .before .before .before .before .before .before .before .args .p) (be 3 k)) (c .before .before .before .index-word .ensures))
 
 returns-2 : tie.Need-returns-2
 unfolding scramblingParts stored
-returns-2 c = rw (ne-eqb _ _ (c .if1 .left)) (sym (add-zero _), refl)
+returns-2 c = rw (← scrambling-same (c .before .before .before .args .c) _ (c .before .both .ensures .0) (c .before .before .before .pre .1 .1), ne-eqb _ _ (c .if1 .left)) (sym (add-zero _), refl)
 
 pub put-scrambling-spec : {M : Type 1} → statement M
 put-scrambling-spec =
     tie.close
-    (tie.spec index-word-requires put-24-requires add-result same-length returns returns-2)
+    (tie.spec
+    both-requires
+    index-word-requires
+    put-24-requires
+    add-result
+    same-length
+    returns
+    returns-2)
