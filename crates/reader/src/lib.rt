@@ -46,6 +46,13 @@ pub fn parse_flat(sel: &[u8]) -> FlatParsed
             length: saturated(have),
         }));
     }
+    if have < 18 {
+        return refused(Answer::Refused(Refusal::Short {
+            place: 1,
+            need: 18,
+            have,
+        }));
+    }
     let k = present_in(sel);
     let e = ends_of(sel, k);
     let end = e.superframe;

@@ -32,11 +32,7 @@ pub some-bond : (n : ℕ) → lessOne n < 2 → 1 ≤ n
 some-bond zero h = absurd (omega arith)
 some-bond (suc n) h = omega arith
 
-pub two-bonds : (n : ℕ) → lessOne n ≡ 1 → n ≡ 2
-two-bonds zero e = absurd (omega arith)
-two-bonds (suc n) e = omega arith
-
-pub one-bond : (n : ℕ) → lessOne n < 2 → (lessOne n ≡ 1 → ⊥) → n ≡ 1
+pub one-bond : (n : ℕ) → lessOne n < 2 → (n ≡ 2 → ⊥) → n ≡ 1
 one-bond zero h k = absurd (omega arith)
 one-bond (suc n) h k = omega (arith, k)
 
@@ -93,22 +89,33 @@ clear-parts r h =
 
 -- ---- parts of numbers that cross
 
+-- the id at the last place is the second where there are two
+pub bonds-same : (t : Bool) (r n l : ℕ) (ids : List ℕ) → l ≡ lessOne n % 2 → and t (wide 1 (lessOne n)) ≡ false
+    → bondParts t r n (getD ids 0 0 ∷ getD ids l 0 ∷ []) ≡ bondParts t r n ids
+unfolding bondParts
+bonds-same false r n l ids d e = refl
+bonds-same true r zero l ids d e = absurd (omega (arith, narrow 1 255 e))
+bonds-same true r (suc zero) l ids d e = refl
+bonds-same true r (suc (suc zero)) l ids d e = rw d refl
+bonds-same true r (suc (suc (suc n))) l ids d e = absurd (omega (arith, narrow 1 (suc (suc n)) e))
+
 -- the index is there where both flags ask for it
-pub scrambling-same : (c : FlatRecord) (m : ℕ) → m ≡ bit (and (isOne (c .«has_scrambling_sequence_selector»)) (isOne (c .«scrambling_sequence_selector»))) → Clear (scramblingB (recordIn c))
-    → scramblingParts (isOne m) (c .«reserved_zero_future_use_6») (O32.Some (c .«scrambling_sequence_index»)) ≡ scramblingOf (recordIn c)
-scrambling-same c m e b =
+pub scrambling-same : (c : FlatRecord) → Clear (scramblingB (recordIn c))
+    → scramblingParts (and (isOne (c .«has_scrambling_sequence_selector»)) (isOne (c .«scrambling_sequence_selector»))) (c .«reserved_zero_future_use_6») (O32.Some (c .«scrambling_sequence_index»)) ≡ scramblingOf (recordIn c)
+scrambling-same c b =
     let s = is-selected (isOne (c .«has_scrambling_sequence_selector»)) (isOne (c .«scrambling_sequence_selector»)) in
     let i = is-32 (isOne (c .«has_scrambling_sequence_index»)) (c .«scrambling_sequence_index») in
-    rw (e, is-bit, s) (sym (there-scrambling (and (isOne (c .«has_scrambling_sequence_selector»)) (isOne (c .«scrambling_sequence_selector»))) (isOne (c .«has_scrambling_sequence_index»)) (c .«reserved_zero_future_use_6») (c .«scrambling_sequence_index») (rw (s, i) at (b .0))))
+    rw (s) (sym (there-scrambling (and (isOne (c .«has_scrambling_sequence_selector»)) (isOne (c .«scrambling_sequence_selector»))) (isOne (c .«has_scrambling_sequence_index»)) (c .«reserved_zero_future_use_6») (c .«scrambling_sequence_index») (rw (s, i) at (b .0))))
 
 -- and it is within its width
-pub scrambling-narrow : (c : FlatRecord) (m : ℕ) → m ≡ bit (and (isOne (c .«has_scrambling_sequence_selector»)) (isOne (c .«scrambling_sequence_selector»))) → Clear (scramblingB (recordIn c))
-    → (and (isOne m) (wide 18 (c .«scrambling_sequence_index»)) ≡ false) × (and (isOne m) (wide 6 (c .«reserved_zero_future_use_6»)) ≡ false)
-scrambling-narrow c m e b =
+pub scrambling-narrow : (c : FlatRecord) → Clear (scramblingB (recordIn c))
+    → (and (and (isOne (c .«has_scrambling_sequence_selector»)) (isOne (c .«scrambling_sequence_selector»))) (wide 18 (c .«scrambling_sequence_index»)) ≡ false)
+    × (and (and (isOne (c .«has_scrambling_sequence_selector»)) (isOne (c .«scrambling_sequence_selector»))) (wide 6 (c .«reserved_zero_future_use_6»)) ≡ false)
+scrambling-narrow c b =
     let s = is-selected (isOne (c .«has_scrambling_sequence_selector»)) (isOne (c .«scrambling_sequence_selector»)) in
     let i = is-32 (isOne (c .«has_scrambling_sequence_index»)) (c .«scrambling_sequence_index») in
     let a = and (isOne (c .«has_scrambling_sequence_selector»)) (isOne (c .«scrambling_sequence_selector»)) in
-    rw (e, is-bit) (there-narrow a (isOne (c .«has_scrambling_sequence_index»)) (c .«scrambling_sequence_index») (rw (s, i) at (b .0)) (rw s at (b .1 .0)), rw s at (b .1 .1 .0))
+    (there-narrow a (isOne (c .«has_scrambling_sequence_index»)) (c .«scrambling_sequence_index») (rw (s, i) at (b .0)) (rw s at (b .1 .0)), rw s at (b .1 .1 .0))
   where
     there-narrow : (a t : Bool) (v : ℕ) → and a (not t) ≡ false → and a (wide 18 (orZero32 (some32If t v))) ≡ false → and a (wide 18 v) ≡ false
     there-narrow true true v h k = k

@@ -24,6 +24,7 @@ use flat::output::record_out;
 use flat::types::FlatAnswer;
 use flat::types::FlatRecord;
 use lists::list_a::inconsistency;
+use lists::list_b::less_one;
 use lists::list_b::unwritable;
 use s2xv2::answer::Answer;
 use s2xv2::answer::Refusal;
@@ -63,6 +64,7 @@ pub fn serialized_len(r: S2Xv2SatelliteDeliverySystem, reserved_tail: &[u8]) -> 
 }
 
 // All parts and then the tail, from the start of the buffer. All has been checked: there is room, and the wire can carry the record.
+// The last id stands at the place that the count minus one tells.
 fn put_all(buf: &mut [u8], c: FlatRecord, tail: &[u8])
     requires { ⌜ encodedLength (recordIn c) (now tail) ≤ length (now buf) ⌝ }
     requires { ⌜ Flagged c ⌝ }
@@ -70,17 +72,28 @@ fn put_all(buf: &mut [u8], c: FlatRecord, tail: &[u8])
     ensures { λ _. ⌜ now (buf .exit) ≡ encode (recordIn c) (now (tail .entry)) ++ drop (encodedLength (recordIn c) (now (tail .entry))) (now (buf .entry)) ⌝ }
 {
     parts::put_core(buf, c);
-    let p1 = parts::put_byte(
+    let stream = c.input_stream_identifier;
+    let p1 = parts::put_byte(buf, 18, c.has_input_stream_identifier, stream);
+    let p2 = parts::put_scrambling(
         buf,
-        18,
-        c.has_input_stream_identifier,
-        c.input_stream_identifier,
+        p1,
+        c.has_scrambling_sequence_selector,
+        c.scrambling_sequence_selector,
+        c.reserved_zero_future_use_6,
+        c.scrambling_sequence_index,
     );
-    let p2 = parts::put_scrambling(buf, p1, c);
     let p3 = parts::put_byte(buf, p2, c.has_timeslice_number, c.timeslice_number);
-    let p4 = parts::put_bonds(buf, p3, c);
-    let superframe = c.superframe;
-    let p5 = parts::put_superframe(buf, p4, c.has_superframe, superframe);
+    let last = (less_one(c.num_channel_bonds) % 2) as usize;
+    let p4 = parts::put_bonds(
+        buf,
+        p3,
+        c.channel_bond,
+        c.reserved_zero_future_use_7,
+        c.num_channel_bonds,
+        c.secondary_delivery_system_ids[0],
+        c.secondary_delivery_system_ids[last],
+    );
+    let p5 = parts::put_superframe(buf, p4, c.has_superframe, c.superframe);
     store::copy(buf, p5, tail);
 }
 

@@ -1,17 +1,19 @@
 // The parts of a record as bytes. Each function stores its part from a place on and answers the place behind it; it requires room for the
 // part, that each flag is 0 or 1, and that list B found nothing in it.
 ghost use mathlib.Core.List.{[], _∷_};
+ghost use mathlib.Core.Bool.{false};
 ghost use mathlib.Core.Path.{_≡_};
 ghost use Prim.Native.Nat.{_+_, _*_, _%_, _≤_, _<_};
 ghost use lib.ListN.{length};
-ghost use Rattle.wire.specs.Flags.{isOne};
+ghost use lib.Dec.{eqb};
+ghost use Rattle.wire.specs.Flags.{isOne, and};
 ghost use Rattle.wire.specs.Store.{stored};
 ghost use Rattle.wire.specs.Widths.{pack};
 ghost use Rattle.wire.specs.Parts.{bytesOf, sizes};
 ghost use Rattle.s2xv2.specs.Table144b.{core};
 ghost use Rattle.s2xv2.specs.Options.{some8If, someSuperframeIf};
-ghost use Rattle.s2xv2.specs.Encode.{coreValues, byteParts, scramblingOf, bondOf, planParts, blockParts, superframeParts};
-ghost use Rattle.s2xv2.specs.ListB.{coreB, scramblingB, bondB, superframeB};
+ghost use Rattle.s2xv2.specs.Encode.{coreValues, byteParts, scramblingParts, lessOne, bondParts, planParts, blockParts, superframeParts};
+ghost use Rattle.s2xv2.specs.ListB.{wide, coreB, superframeB};
 ghost use Rattle.s2xv2.proofs.Lists.{Clear};
 ghost use Rattle.s2xv2.specs.declared.option.OptionU32.the-variants as O32;
 ghost use Rattle.s2xv2.specs.declared.superframe.OptionSuperframe.the-variants as OS;
@@ -112,23 +114,22 @@ fn index_word(reserved: u8, index: u32) -> u32
     (reserved as u32) * 262144 + index
 }
 
-// The scrambling sequence index, with what is reserved before it.
-pub(crate) fn put_scrambling(buf: &mut [u8], p: usize, c: FlatRecord) -> usize
-    requires { ⌜ p + sizes (scramblingOf (recordIn c)) ≤ length (now buf) ⌝ }
-    requires { ⌜ Flagged c ⌝ }
-    requires { ⌜ Clear (scramblingB (recordIn c)) ⌝ }
-    ensures { λ q. ⌜ (q ≡ p + sizes (scramblingOf (recordIn c))) × (now (buf .exit) ≡ stored (now (buf .entry)) p (bytesOf (scramblingOf (recordIn c)) [])) ⌝ }
+// The scrambling sequence index, with what is reserved before it, if its selector is there and set.
+pub(crate) fn put_scrambling(
+    buf: &mut [u8],
+    p: usize,
+    has: u8,
+    selector: u8,
+    reserved: u8,
+    index: u32,
+) -> usize
+    requires { ⌜ p + sizes (scramblingParts (and (isOne has) (isOne selector)) reserved (O32.Some index)) ≤ length (now buf) ⌝ }
+    requires { ⌜ (has < 2) × (selector < 2) ⌝ }
+    requires { ⌜ (and (and (isOne has) (isOne selector)) (wide 18 index) ≡ false) × (and (and (isOne has) (isOne selector)) (wide 6 reserved) ≡ false) ⌝ }
+    ensures { λ q. ⌜ (q ≡ p + sizes (scramblingParts (and (isOne has) (isOne selector)) reserved (O32.Some index))) × (now (buf .exit) ≡ stored (now (buf .entry)) p (bytesOf (scramblingParts (and (isOne has) (isOne selector)) reserved (O32.Some index)) [])) ⌝ }
 {
-    let there = both(
-        c.has_scrambling_sequence_selector,
-        c.scrambling_sequence_selector,
-    );
-    if there == 1 {
-        put_24(
-            buf,
-            p,
-            index_word(c.reserved_zero_future_use_6, c.scrambling_sequence_index),
-        );
+    if both(has, selector) == 1 {
+        put_24(buf, p, index_word(reserved, index));
         p + 3
     } else {
         p
@@ -144,17 +145,24 @@ fn bond_header(reserved: u8, less: u8) -> u8
 }
 
 // The header of the bonds, and one id or two.
-pub(crate) fn put_bonds(buf: &mut [u8], p: usize, c: FlatRecord) -> usize
-    requires { ⌜ p + sizes (bondOf (recordIn c)) ≤ length (now buf) ⌝ }
-    requires { ⌜ Clear (bondB (recordIn c)) ⌝ }
-    ensures { λ q. ⌜ (q ≡ p + sizes (bondOf (recordIn c))) × (now (buf .exit) ≡ stored (now (buf .entry)) p (bytesOf (bondOf (recordIn c)) [])) ⌝ }
+pub(crate) fn put_bonds(
+    buf: &mut [u8],
+    p: usize,
+    bond: u8,
+    reserved: u8,
+    count: u8,
+    first: u32,
+    second: u32,
+) -> usize
+    requires { ⌜ p + sizes (bondParts (eqb bond 1) reserved count (first ∷ second ∷ [])) ≤ length (now buf) ⌝ }
+    requires { ⌜ (and (eqb bond 1) (wide 1 (lessOne count)) ≡ false) × (and (eqb bond 1) (wide 7 reserved) ≡ false) ⌝ }
+    ensures { λ q. ⌜ (q ≡ p + sizes (bondParts (eqb bond 1) reserved count (first ∷ second ∷ []))) × (now (buf .exit) ≡ stored (now (buf .entry)) p (bytesOf (bondParts (eqb bond 1) reserved count (first ∷ second ∷ [])) [])) ⌝ }
 {
-    if c.channel_bond == 1 {
-        let less = less_one(c.num_channel_bonds);
-        put(buf, p, bond_header(c.reserved_zero_future_use_7, less));
-        put_32(buf, p + 1, c.secondary_delivery_system_ids[0]);
-        if less == 1 {
-            put_32(buf, p + 5, c.secondary_delivery_system_ids[1]);
+    if bond == 1 {
+        put(buf, p, bond_header(reserved, less_one(count)));
+        put_32(buf, p + 1, first);
+        if count == 2 {
+            put_32(buf, p + 5, second);
             p + 9
         } else {
             p + 5

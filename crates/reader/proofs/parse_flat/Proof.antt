@@ -1,10 +1,11 @@
 -- `reader::parse_flat` meets its contract: the laws of the answer say what a body reads as that is too long, too short, or neither.
 -- Assumes nothing.
 use mathlib.Core.Path.{sym, ap, _∙_}
+use lib.ListN.{length}
 use denote.Ref.{now}
 use Rattle.s2xv2.specs.Read.{bodySize}
-use Rattle.s2xv2.specs.declared.answer.Refusal.the-variants.{Long}
-use Rattle.s2xv2.proofs.Reach.{told-long, told-within, reads-accepted, reads-refused, reads-short}
+use Rattle.s2xv2.specs.declared.answer.Refusal.the-variants.{Short, Long}
+use Rattle.s2xv2.proofs.Reach.{told-long, told-core, told-within, reads-accepted, reads-refused, reads-short}
 use Rattle.layout.specs.Layout.{presentNow}
 use Rattle.reader.specs.Seen.{flatSeen}
 use Rattle.reader.proofs.Laws.{reached}
@@ -24,6 +25,14 @@ returns c =
     let s = now (c .before .before .before .before .args .sel) in
     c .refused .ensures ∙ sym (ap flatSeen (reads-refused s (Long (c .before .saturated .result)) (rw (c .before .saturated .ensures) (sym (told-long s (c .before .before .if1 .taken))))))
 
+refused-requires-2 : tie.Need-refused-requires-2
+refused-requires-2 c κs = search needs
+
+returns-2 : tie.Need-returns-2
+returns-2 c =
+    let s = now (c .before .before .before .before .args .sel) in
+    c .refused2 .ensures ∙ sym (ap flatSeen (reads-refused s (Short 1 18 (length s)) (sym (told-core s (c .before .if2 .taken)))))
+
 present-in-requires : tie.Need-present-in-requires
 present-in-requires c κs = search needs
 
@@ -33,32 +42,32 @@ ends-of-requires c κs = search needs
 missing-requires : tie.Need-missing-requires
 missing-requires c κs = search needs
 
-refused-requires-2 : tie.Need-refused-requires-2
-refused-requires-2 c κs = search needs
+refused-requires-3 : tie.Need-refused-requires-3
+refused-requires-3 c κs = search needs
 
-returns-2 : tie.Need-returns-2
+returns-3 : tie.Need-returns-3
 unfolding bodySize
-returns-2 c =
-    let s = now (c .before .before .before .before .before .before .before .args .sel) in
+returns-3 c =
+    let s = now (c .before .before .before .before .before .before .before .before .args .sel) in
     let e = simp (c .before .before .before .ends-of .ensures, c .before .before .before .before .present-in .ensures) at (c .before .missing .ensures) in
-    let h = rw (c .before .before .before .ends-of .ensures, c .before .before .before .before .present-in .ensures) at (c .before .before .if2 .taken) in
-    c .refused2 .ensures ∙ simp (e ∙ sym (told-within s (c .before .before .before .before .before .if1 .left))) (sym (ap flatSeen (reads-short s h)))
+    let h = rw (c .before .before .before .ends-of .ensures, c .before .before .before .before .present-in .ensures) at (c .before .before .if3 .taken) in
+    c .refused3 .ensures ∙ simp (e ∙ sym (told-within s (c .before .before .before .before .before .before .if1 .left))) (sym (ap flatSeen (reads-short s h)))
 
 answer-of-requires : tie.Need-answer-of-requires
 answer-of-requires c κs = search needs
 
 record-at-requires : tie.Need-record-at-requires
 record-at-requires c κs =
-    let s = now (c .before .before .before .before .before .before .args .sel) in
-    rw (c .before .before .ends-of .ensures, c .before .before .before .present-in .ensures)
-    (reached s _ (rw (c .before .before .ends-of .ensures, c .before .before .before .present-in .ensures) at (c .before .if2 .left)))
-
-returns-3 : tie.Need-returns-3
-unfolding bodySize
-returns-3 c =
     let s = now (c .before .before .before .before .before .before .before .args .sel) in
-    let h = rw (c .before .before .before .ends-of .ensures, c .before .before .before .before .present-in .ensures) at (c .before .before .if2 .left) in
-    simp (c .record-at .ensures, c .before .answer-of .ensures, c .before .before .before .ends-of .ensures, c .before .before .before .before .present-in .ensures, flat-record s (presentNow s)) (sym (ap flatSeen (reads-accepted s h (c .before .before .before .before .before .if1 .left))))
+    rw (c .before .before .ends-of .ensures, c .before .before .before .present-in .ensures)
+    (reached s _ (rw (c .before .before .ends-of .ensures, c .before .before .before .present-in .ensures) at (c .before .if3 .left)))
+
+returns-4 : tie.Need-returns-4
+unfolding bodySize
+returns-4 c =
+    let s = now (c .before .before .before .before .before .before .before .before .args .sel) in
+    let h = rw (c .before .before .before .ends-of .ensures, c .before .before .before .before .present-in .ensures) at (c .before .before .if3 .left) in
+    simp (c .record-at .ensures, c .before .answer-of .ensures, c .before .before .before .ends-of .ensures, c .before .before .before .before .present-in .ensures, flat-record s (presentNow s)) (sym (ap flatSeen (reads-accepted s h (c .before .before .before .before .before .before .if1 .left))))
 
 pub parse-flat-spec : {M : Type 1} → statement M
 parse-flat-spec =
@@ -67,11 +76,13 @@ parse-flat-spec =
     saturated-requires
     refused-requires
     returns
+    refused-requires-2
+    returns-2
     present-in-requires
     ends-of-requires
     missing-requires
-    refused-requires-2
-    returns-2
+    refused-requires-3
+    returns-3
     answer-of-requires
     record-at-requires
-    returns-3)
+    returns-4)
