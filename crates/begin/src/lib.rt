@@ -95,7 +95,7 @@ pub fn begin(slot: &[u8], r: S2Xv2SatelliteDeliverySystem, reserved_tail: &[u8])
     ensures { λ b. ⌜ begunSeen b ≡ beginOf (now (slot .entry)) r (now («reserved_tail» .entry)) ⌝ }
 {
     if in_form(slot) {
-        let answer = writer::serialized_len(r, reserved_tail);
+        let answer = measure::serialized_len(r, reserved_tail);
         match answer {
             Answer::Accepted(length) => fit(slot.len(), length + 3, r, reserved_tail),
             Answer::Refused(why) => refused(why),

@@ -45,7 +45,7 @@ pub extern "C" fn s2xv2_reserved_tail(sel: &[u8]) -> FlatPart
 pub extern "C" fn s2xv2_serialized_len(r: FlatRecord, reserved_tail: &[u8]) -> FlatAnswer
     ensures { λ a. ⌜ a ≡ when (valid r) (answerOut (lengthTold (recordIn r) (now («reserved_tail» .entry)))) foreign ⌝ }
 {
-    writer::serialized_len_flat(r, reserved_tail)
+    measure::serialized_len_flat(r, reserved_tail)
 }
 
 // `serialize_into` of the library. Refuses with 100 what no record could hold, and then stores nothing.

@@ -1,7 +1,7 @@
 // From what crosses to the library's types.
 ghost use mathlib.Core.Path.{_≡_};
 ghost use lib.Dec.{ltb};
-ghost use Rattle.wire.specs.Flags.{isOne, and};
+ghost use Rattle.wire.specs.Flags.{when, isOne, and};
 ghost use Rattle.s2xv2.specs.Options.{someBoolIf, some8If, some32If, someSuperframeIf};
 ghost use Rattle.flat.specs.Input.{modeIn, blockIn, recordIn, blockFlags, recordFlags, flags, named, valid, Joined};
 use crate::types::FlatRecord;
@@ -136,6 +136,13 @@ pub fn record_in(c: FlatRecord) -> S2Xv2SatelliteDeliverySystem
         num_channel_bonds: c.num_channel_bonds,
         superframe: superframe_in(c.has_superframe, block),
     }
+}
+
+// The first number where the flag is set, and the second where it is clear.
+pub fn picked(flag: u8, first: u8, second: u8) -> u8
+    ensures { λ r. ⌜ r ≡ when (isOne flag) first second ⌝ }
+{
+    if flag == 1 { first } else { second }
 }
 
 // The bits of both bytes: below a power of two only if both are.

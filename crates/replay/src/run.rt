@@ -112,7 +112,7 @@ pub(crate) fn answer_to_made(body: &[u8], made: usize) -> [u32; 5] {
 // What the length call answers.
 fn measured(v: &[u32; 45], tail: &[u8]) -> [u32; 5] {
     let r = record(v);
-    let answer = writer::serialized_len(r, tail);
+    let answer = measure::serialized_len(r, tail);
     told(answer)
 }
 

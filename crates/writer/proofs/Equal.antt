@@ -1,20 +1,15 @@
--- The contracts of `serialized_len` and `serialize_into` leave no choice.
+-- The contract of `serialize_into` leaves no choice.
 -- Assumes nothing.
 use mathlib.Core.Path.{_≡_, sym, _∙_}
 use mathlib.Core.List.{List}
 use Prim.Native.Nat.{ℕ}
 use Rattle.s2xv2.specs.Answer.{told}
-use Rattle.s2xv2.specs.Length.{lengthTold}
 use Rattle.s2xv2.specs.Write.{writeTold, written}
 use Rattle.s2xv2.specs.declared.answer.Answer.{Answer}
 use Rattle.s2xv2.specs.declared.record.S2Xv2SatelliteDeliverySystem.{S2Xv2SatelliteDeliverySystem}
 use Rattle.s2xv2.proofs.Answers.{same-told}
 
 module _ (r : S2Xv2SatelliteDeliverySystem) (tail : List ℕ) where
-  -- Two answers of `serialized_len` for the same record and tail are equal.
-  pub serialized-len-equal : (a b : Answer) → told a ≡ lengthTold r tail → told b ≡ lengthTold r tail → a ≡ b
-  serialized-len-equal a b e d = same-told a b (e ∙ sym d)
-
   -- Two answers of `serialize_into` for the same record, tail and room are equal, and so are two buffers that it may leave of one.
   pub serialize-into-equal : (room : ℕ) (a b : Answer) → told a ≡ writeTold r tail room → told b ≡ writeTold r tail room → a ≡ b
   serialize-into-equal room a b e d = same-told a b (e ∙ sym d)

@@ -24,7 +24,8 @@ use Rattle.flat.specs.Input.{blockIn, recordIn}
 use Rattle.flat.proofs.Back.{is-selected, is-32}
 use Rattle.flat.specs.declared.types.FlatSuperframe.{FlatSuperframe}
 use Rattle.flat.specs.declared.types.FlatRecord.{FlatRecord}
-use Rattle.writer.proofs.Flags.{never, is-bit, there-scrambling, there-plan}
+use Rattle.measure.proofs.Flags.{never}
+use Rattle.writer.proofs.Flags.{there-scrambling, there-plan}
 
 -- ---- a count that list B passes is 1 or 2
 

@@ -19,13 +19,12 @@ ghost use Rattle.s2xv2.specs.declared.option.OptionU32.the-variants as O32;
 ghost use Rattle.s2xv2.specs.declared.superframe.OptionSuperframe.the-variants as OS;
 ghost use Rattle.flat.specs.Input.{blockIn, recordIn};
 ghost use Rattle.writer.specs.Bytes.{flagBytes, blockBytes};
-ghost use Rattle.writer.specs.Flagged.{FlaggedBlock, Flagged};
-use crate::flag::both;
-use crate::flag::picked;
+ghost use Rattle.measure.specs.Flagged.{FlaggedBlock, Flagged};
 use crate::store::copy;
 use crate::store::put;
 use crate::store::put_24;
 use crate::store::put_32;
+use flat::input::picked;
 use flat::types::FlatRecord;
 use flat::types::FlatSuperframe;
 use lists::list_b::less_one;
@@ -124,11 +123,10 @@ pub(crate) fn put_scrambling(
     index: u32,
 ) -> usize
     requires { ⌜ p + sizes (scramblingParts (and (isOne has) (isOne selector)) reserved (O32.Some index)) ≤ length (now buf) ⌝ }
-    requires { ⌜ (has < 2) × (selector < 2) ⌝ }
     requires { ⌜ (and (and (isOne has) (isOne selector)) (wide 18 index) ≡ false) × (and (and (isOne has) (isOne selector)) (wide 6 reserved) ≡ false) ⌝ }
     ensures { λ q. ⌜ (q ≡ p + sizes (scramblingParts (and (isOne has) (isOne selector)) reserved (O32.Some index))) × (now (buf .exit) ≡ stored (now (buf .entry)) p (bytesOf (scramblingParts (and (isOne has) (isOne selector)) reserved (O32.Some index)) [])) ⌝ }
 {
-    if both(has, selector) == 1 {
+    if (has == 1) & (selector == 1) {
         put_24(buf, p, index_word(reserved, index));
         p + 3
     } else {

@@ -34,7 +34,7 @@ unfolding encodedLength
 put-scrambling-requires c κs =
     let r = recordIn (c .before .before .before .before .before .before .before .before .before .before .before .args .t2) in
     let b = clear-parts r (c .before .before .before .before .before .before .before .before .before .before .before .pre .1 .1) .1 in
-    (rw (scrambling-same (c .before .before .before .before .before .before .before .before .before .before .before .args .t2) b) (omega (arith, parts-split r, c .before .before .before .before .before .before .before .before .before .before .before .pre .0, c .before .before .before .before .before .before .before .put-core .kept .0, c .before .before .before .put-byte .kept .0, c .before .before .before .put-byte .ensures .0)), ((c .before .before .before .before .before .before .before .before .before .before .before .pre .1 .0 .scrambled, c .before .before .before .before .before .before .before .before .before .before .before .pre .1 .0 .selector), scrambling-narrow (c .before .before .before .before .before .before .before .before .before .before .before .args .t2) b))
+    (rw (scrambling-same (c .before .before .before .before .before .before .before .before .before .before .before .args .t2) b) (omega (arith, parts-split r, c .before .before .before .before .before .before .before .before .before .before .before .pre .0, c .before .before .before .before .before .before .before .put-core .kept .0, c .before .before .before .put-byte .kept .0, c .before .before .before .put-byte .ensures .0)), (scrambling-narrow (c .before .before .before .before .before .before .before .before .before .before .before .args .t2) b))
 
 put-byte-requires-2 : tie.Need-put-byte-requires-2
 unfolding encodedLength

@@ -1,82 +1,48 @@
--- `writer::serialize_flat` meets its contract: the tests pick the case; what nothing refuses is written and accepted with its length.
+-- `writer::serialize_flat` meets its contract: what is accepted is stored, and what is refused leaves the buffer.
 -- Assumes nothing.
-use mathlib.Core.Path.{sym, _∙_}
-use native.Mathlib.Omega.{arith}
+use mathlib.Core.Path.{_≡_, sym, ap, _∙_}
+use Prim.Native.Nat.{ℕ}
 use lib.ListN.{length}
 use denote.Ref.{now}
-use Rattle.s2xv2.specs.ListA.{inconsistency, listA}
 use Rattle.s2xv2.specs.ListB.{listB, unwritable}
-use Rattle.s2xv2.proofs.Lists.{clear-first}
+use Rattle.s2xv2.proofs.Lists.{first-clear}
 use Rattle.s2xv2.proofs.Written.{told-written, written-accepted}
 use Rattle.flat.specs.Input.{recordIn}
-use Rattle.writer.proofs.Flags.{flagged}
+use Rattle.flat.specs.declared.types.FlatAnswer.{FlatAnswer}
+use Rattle.measure.proofs.Flags.{flagged}
+use Rattle.writer.proofs.Crossed.{accepted-flat, refused-flat}
 use borrow.Author.Needs.{needs}
 use Rattle.writer.proofs.serialize_flat.Statement.{statement}
 use Rattle.writer.proofs.serialize_flat.Tie as tie
 
-is-valid-requires : tie.Need-is-valid-requires
-is-valid-requires c κs = search needs
-
-ready-len-requires : tie.Need-ready-len-requires
-ready-len-requires c κs = flagged _ (sym (c .before .is-valid .ensures) ∙ c .if1 .taken)
-
-put-judged-requires : tie.Need-put-judged-requires
-put-judged-requires c κs = flagged _ (sym (c .before .before .before .before .is-valid .ensures) ∙ c .before .before .before .if1 .taken)
-
-answer-out-requires : tie.Need-answer-out-requires
-answer-out-requires c κs = search needs
+write-answer-flat-requires : tie.Need-write-answer-flat-requires
+write-answer-flat-requires c κs = search needs
 
 put-all-requires : tie.Need-put-all-requires
+unfolding unwritable
 put-all-requires c κs =
-    let a = c .before .before .before .before .before .before .before .args in
+    let a = c .before .before .before .before .before .before .args in
     let r = recordIn (a .c) in
-    let t = now (a .reserved-tail) in
-    let k = c .before .before .ready-len .ensures (c .before .if2 .left) in
-    (omega (arith, k .size, k .fits), (flagged _ (sym (c .before .before .before .before .is-valid .ensures) ∙ c .before .before .before .if1 .taken), k .lists .carried))
-
-answer-of-requires : tie.Need-answer-of-requires
-answer-of-requires c κs = search needs
-
-foreign-requires : tie.Need-foreign-requires
-foreign-requires c κs = search needs
+    let w = accepted-flat (a .c) (now (a .reserved-tail)) (length (now (a .buf))) (rw (c .before .before .before .write-answer-flat .ensures) at (c .before .if1 .taken)) in
+    (w .1 .fits, (flagged _ (w .0), first-clear 0 (listB r) (w .1 .carried)))
 
 same-length : tie.Need-same-length
 same-length c = search needs
 
 returns : tie.Need-returns
-returns c = (simp (c .answer-out .ensures, c .before .before .before .put-judged .ensures .0, sym (c .before .before .before .before .before .before .before .before .is-valid .ensures) ∙ c .before .before .before .before .before .before .before .if1 .taken), simp (sym (c .before .before .before .before .before .before .before .before .is-valid .ensures) ∙ c .before .before .before .before .before .before .before .if1 .taken) (c .before .before .before .put-judged .ensures .1))
-
-same-length-2 : tie.Need-same-length-2
-same-length-2 c = search needs
-
-returns-2 : tie.Need-returns-2
-unfolding inconsistency unwritable
-returns-2 c =
-    let a = c .before .before .before .before .before .before .before .before .before .before .before .args in
+returns c =
+    let a = c .before .before .before .before .before .before .before .before .before .args in
     let r = recordIn (a .c) in
     let t = now (a .reserved-tail) in
-    let k = c .before .before .before .before .before .before .ready-len .ensures (c .before .before .before .before .before .if2 .left) in
-    let e = told-written r t (clear-first 1 (listA r) (k .lists .consistent)) (omega (arith, k .size, k .within)) (length (now (a .buf))) (omega (arith, k .size, k .fits)) (clear-first 1 (listB r) (k .lists .carried)) in
-    (simp (c .answer-of .ensures, sym (c .before .before .before .before .before .before .before .before .is-valid .ensures) ∙ c .before .before .before .before .before .before .before .if1 .taken, e, sym (k .size)), simp (sym (c .before .before .before .before .before .before .before .before .is-valid .ensures) ∙ c .before .before .before .before .before .before .before .if1 .taken) (c .before .before .before .put-all .ensures ∙ sym (written-accepted r t (now (a .buf)) _ (sym e))))
+    let w = accepted-flat (a .c) t (length (now (a .buf))) (rw (c .before .before .before .before .before .before .write-answer-flat .ensures) at (c .before .before .before .before .if1 .taken)) in
+    let e = told-written r t (w .1 .consistent) (w .1 .within) (length (now (a .buf))) (w .1 .fits) (w .1 .carried) in
+    (c .before .before .before .before .before .before .write-answer-flat .ensures, c .before .before .put-all .ensures ∙ simp (w .0) (sym (written-accepted r t (now (a .buf)) _ (sym e))))
 
-returns-3 : tie.Need-returns-3
-returns-3 c =
-    let v = sym (c .before .before .is-valid .ensures) ∙ c .before .if1 .left in
-    (simp (c .foreign .ensures, v), simp v)
+returns-2 : tie.Need-returns-2
+returns-2 c =
+    let a = c .before .before .before .before .before .args in
+    (c .before .before .write-answer-flat .ensures, sym (refused-flat (a .c) (now (a .reserved-tail)) (now (a .buf)) (λ z. c .if1 .left (ap (λ (x : FlatAnswer). x .number) (c .before .before .write-answer-flat .ensures) ∙ z))))
 
 pub serialize-flat-spec : {M : Type 1} → statement M
 serialize-flat-spec =
-    tie.close
-    (tie.spec
-    is-valid-requires
-    ready-len-requires
-    put-judged-requires
-    answer-out-requires
-    put-all-requires
-    answer-of-requires
-    foreign-requires
-    same-length
-    returns
-    same-length-2
-    returns-2
-    returns-3)
+    tie.close (tie.spec write-answer-flat-requires put-all-requires same-length returns returns-2)

@@ -1,35 +1,71 @@
--- `writer::serialize_into` meets its contract: a record that crosses out is the same record.
+-- `writer::serialize_into` meets its contract: what is accepted is stored, and what is refused leaves the buffer.
 -- Assumes nothing.
-use mathlib.Core.Path.{sym, ap, _∙_}
-use mathlib.Core.List.{List}
-use Prim.Native.Nat.{ℕ}
-use lib.ListN.{length}
+use mathlib.Core.Path.{sym, ap, subst, _∙_}
+use mathlib.Core.List.{_++_}
+use Prim.Native.Nat.{_≤_}
+use lib.ListN.{length, drop}
 use denote.Ref.{now}
-use Rattle.s2xv2.specs.Write.{writeTold, written}
+use Rattle.s2xv2.specs.Answer.{told}
+use Rattle.s2xv2.specs.Read.{numberOf}
+use Rattle.s2xv2.specs.Encode.{encode, encodedLength}
+use Rattle.s2xv2.specs.ListB.{listB, unwritable}
 use Rattle.s2xv2.specs.declared.record.S2Xv2SatelliteDeliverySystem.{S2Xv2SatelliteDeliverySystem}
+use Rattle.s2xv2.proofs.Lists.{Clear, first-clear}
+use Rattle.s2xv2.proofs.Written.{accepted-writable, written-accepted, written-refused}
 use Rattle.flat.specs.Input.{recordIn}
 use Rattle.flat.proofs.Back.{back, out-valid}
-use Rattle.writer.proofs.Flags.{flagged}
+use Rattle.measure.proofs.Flags.{flagged}
 use borrow.Author.Needs.{needs}
 use Rattle.writer.proofs.serialize_into.Statement.{statement}
 use Rattle.writer.proofs.serialize_into.Tie as tie
 
+write-answer-requires : tie.Need-write-answer-requires
+write-answer-requires c κs = search needs
+
+enum-told : tie.Need-enum-told
+enum-told c = search needs
+
 record-out-requires : tie.Need-record-out-requires
 record-out-requires c κs = search needs
 
-put-judged-requires : tie.Need-put-judged-requires
-put-judged-requires c κs = rw (c .before .record-out .ensures) (flagged _ (out-valid (c .before .before .before .before .args .r)))
+put-all-requires : tie.Need-put-all-requires
+unfolding unwritable
+put-all-requires c κs =
+    let a = c .before .before .before .before .before .before .before .args in
+    let t = now (a .reserved-tail) in
+    let w = accepted-writable (a .r) t (length (now (a .buf))) (ap numberOf (sym (c .before .before .before .before .write-answer .ensures) ∙ ap told (c .before .before .enum-told .given .1))) in
+    let e = ap recordIn (c .record-out .ensures) ∙ back (a .r) in (
+      subst (λ (r : S2Xv2SatelliteDeliverySystem). encodedLength r t ≤ length (now (a .buf))) (sym e) (w .fits),
+      (rw (c .record-out .ensures) (flagged _ (out-valid (a .r))), subst (λ (r : S2Xv2SatelliteDeliverySystem). Clear (listB r)) (sym e) (first-clear 0 (listB (a .r)) (w .carried))),
+    )
+
+enum-told-2 : tie.Need-enum-told-2
+enum-told-2 c = search needs
 
 same-length : tie.Need-same-length
 same-length c = search needs
 
 returns : tie.Need-returns
 returns c =
-    let a = c .before .before .before .before .before .before .before .args in
-    let e = ap recordIn (c .before .before .before .before .record-out .ensures) ∙ back (a .r) in
-    let j = c .before .before .put-judged .ensures in
-    (j .0 ∙ ap (λ (r : S2Xv2SatelliteDeliverySystem). writeTold r (now (a .reserved-tail)) (length (now (a .buf)))) e, j .1 ∙ ap (λ (r : S2Xv2SatelliteDeliverySystem). written r (now (a .reserved-tail)) (now (a .buf))) e)
+    let a = c .before .before .before .before .before .before .before .before .before .before .args in
+    let t = now (a .reserved-tail) in
+    let e = ap recordIn (c .before .before .before .record-out .ensures) ∙ back (a .r) in
+    (c .before .before .before .before .before .before .before .write-answer .ensures, c .before .before .put-all .ensures ∙ ap (λ (r : S2Xv2SatelliteDeliverySystem). encode r t ++ drop (encodedLength r t) (now (a .buf))) e ∙ sym (written-accepted (a .r) t (now (a .buf)) _ (sym (ap told (c .before .before .before .before .before .enum-told .given .1)) ∙ c .before .before .before .before .before .before .before .write-answer .ensures)))
+
+returns-2 : tie.Need-returns-2
+returns-2 c =
+    let a = c .before .before .before .before .before .args in
+    (c .before .before .write-answer .ensures, sym (written-refused (a .r) (now (a .reserved-tail)) (now (a .buf)) (c .enum-told2 .given .0 .0) (sym (ap told (c .enum-told2 .given .1)) ∙ c .before .before .write-answer .ensures)))
 
 pub serialize-into-spec : {M : Type 1} → statement M
 serialize-into-spec =
-    tie.close (tie.spec record-out-requires put-judged-requires same-length returns)
+    tie.close
+    (tie.spec
+    write-answer-requires
+    enum-told
+    record-out-requires
+    put-all-requires
+    enum-told-2
+    same-length
+    returns
+    returns-2)

@@ -5,7 +5,8 @@ use Rattle.wire.specs.Flags.{isOne}
 use Rattle.s2xv2.specs.Options.{some8If}
 use Rattle.s2xv2.specs.Encode.{nibbleOf}
 use Rattle.flat.proofs.Back.{is-8}
-use Rattle.writer.proofs.Flags.{bit-is, there-nibble}
+use Rattle.measure.proofs.Flags.{bit-is}
+use Rattle.writer.proofs.Flags.{there-nibble}
 use borrow.Author.Needs.{needs}
 use Rattle.writer.proofs.parts.block_bytes.Statement.{statement}
 use Rattle.writer.proofs.parts.block_bytes.Tie as tie

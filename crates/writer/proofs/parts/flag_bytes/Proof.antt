@@ -4,8 +4,9 @@ use Rattle.s2xv2.proofs.Lists.{narrow}
 use Rattle.wire.specs.Flags.{isOne}
 use Rattle.s2xv2.specs.Table144c.{codeOf}
 use Rattle.flat.specs.Input.{modeIn}
-use Rattle.writer.proofs.Flags.{bit-is, top-is, top-small}
-use Rattle.writer.proofs.Checked.{code-in}
+use Rattle.measure.proofs.Flags.{bit-is}
+use Rattle.writer.proofs.Flags.{top-is, top-small}
+use Rattle.measure.proofs.Checked.{code-in}
 use borrow.Author.Needs.{needs}
 use Rattle.writer.proofs.parts.flag_bytes.Statement.{statement}
 use Rattle.writer.proofs.parts.flag_bytes.Tie as tie

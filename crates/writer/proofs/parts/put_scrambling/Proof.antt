@@ -1,35 +1,25 @@
 -- `writer::parts::put_scrambling` meets its contract: in each case.
 -- Assumes nothing.
-use mathlib.Core.Path.{_≡_, refl, sym, ap, _∙_}
-use mathlib.Core.Bool.{true, false}
+use mathlib.Core.Path.{refl, sym, ap, _∙_}
 use Prim.Native.Nat.{ℕ}
 use native.Mathlib.Omega.{arith}
 use native.Mathlib.Nat.{add-zero}
 use denote.Ref.{now}
-use Rattle.wire.specs.Flags.{isOne, and}
 use Rattle.wire.specs.Store.{stored}
 use Rattle.wire.specs.Widths.{be}
-use borrow.Author.Tests.{eq-eqb, ne-eqb}
 use Rattle.s2xv2.proofs.Lists.{narrow-if}
 use Rattle.s2xv2.specs.Encode.{scramblingParts}
-use Rattle.writer.proofs.Flags.{is-bit}
 use borrow.Author.Needs.{needs}
 use Rattle.writer.proofs.parts.put_scrambling.Statement.{statement}
 use Rattle.writer.proofs.parts.put_scrambling.Tie as tie
 
-both-requires : tie.Need-both-requires
-both-requires c κs = search needs
-
 index-word-requires : tie.Need-index-word-requires
-index-word-requires c κs =
-    let t : and (isOne (c .before .before .before .before .args .has)) (isOne (c .before .before .before .before .args .selector)) ≡ true = sym (is-bit (and (isOne (c .before .before .before .before .args .has)) (isOne (c .before .before .before .before .args .selector)))) ∙ eq-eqb _ _ (sym (c .before .before .both .ensures .0) ∙ c .before .if1 .taken) in
-    (narrow-if _ 6 _ (c .before .before .before .before .pre .1 .1 .1) t, narrow-if _ 18 _ (c .before .before .before .before .pre .1 .1 .0) t)
+index-word-requires c κs = (narrow-if _ 6 _ (c .before .before .before .pre .1 .1) (c .before .if1 .taken), narrow-if _ 18 _ (c .before .before .before .pre .1 .0) (c .before .if1 .taken))
 
 put-24-requires : tie.Need-put-24-requires
 unfolding scramblingParts
 put-24-requires c κs =
-    let t : and (isOne (c .before .before .before .before .before .args .has)) (isOne (c .before .before .before .before .before .args .selector)) ≡ true = sym (is-bit (and (isOne (c .before .before .before .before .before .args .has)) (isOne (c .before .before .before .before .before .args .selector)))) ∙ eq-eqb _ _ (sym (c .before .before .before .both .ensures .0) ∙ c .before .before .if1 .taken) in
-    let h = rw t at (c .before .before .before .before .before .pre .0) in
+    let h = rw (c .before .before .if1 .taken) at (c .before .before .before .before .pre .0) in
     omega arith
 
 add-result : tie.Need-add-result
@@ -41,24 +31,13 @@ same-length c = search needs
 returns : tie.Need-returns
 unfolding scramblingParts
 returns c =
-    let t : and (isOne (c .before .before .before .before .before .before .before .before .args .has)) (isOne (c .before .before .before .before .before .before .before .before .args .selector)) ≡ true = sym (is-bit (and (isOne (c .before .before .before .before .before .before .before .before .args .has)) (isOne (c .before .before .before .before .before .before .before .before .args .selector)))) ∙ eq-eqb _ _ (sym (c .before .before .before .before .before .before .both .ensures .0) ∙ c .before .before .before .before .before .if1 .taken) in
-    rw t
-    (refl, c .before .before .put-24 .ensures ∙ ap (λ (k : ℕ). stored (now (c .before .before .before .before .before .before .before .before .args .buf)) (c .before .before .before .before .before .before .before .before .args .p) (be 3 k)) (c .before .before .before .index-word .ensures))
+    rw (c .before .before .before .before .before .if1 .taken) (refl, c .before .before .put-24 .ensures ∙ ap (λ (k : ℕ). stored (now (c .before .before .before .before .before .before .before .args .buf)) (c .before .before .before .before .before .before .before .args .p) (be 3 k)) (c .before .before .before .index-word .ensures))
 
 returns-2 : tie.Need-returns-2
 unfolding scramblingParts stored
-returns-2 c =
-    let f : and (isOne (c .before .before .before .args .has)) (isOne (c .before .before .before .args .selector)) ≡ false = sym (is-bit (and (isOne (c .before .before .before .args .has)) (isOne (c .before .before .before .args .selector)))) ∙ ne-eqb _ _ (λ e. c .if1 .left (c .before .both .ensures .0 ∙ e)) in
-    rw f (sym (add-zero _), refl)
+returns-2 c = rw (c .if1 .left) (sym (add-zero _), refl)
 
 pub put-scrambling-spec : {M : Type 1} → statement M
 put-scrambling-spec =
     tie.close
-    (tie.spec
-    both-requires
-    index-word-requires
-    put-24-requires
-    add-result
-    same-length
-    returns
-    returns-2)
+    (tie.spec index-word-requires put-24-requires add-result same-length returns returns-2)

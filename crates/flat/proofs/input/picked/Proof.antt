@@ -1,0 +1,14 @@
+-- `flat::input::picked` meets its contract: the test picks the case.
+-- Assumes nothing.
+use borrow.Author.Tests.{eq-eqb, ne-eqb}
+use Rattle.flat.proofs.input.picked.Statement.{statement}
+use Rattle.flat.proofs.input.picked.Tie as tie
+
+returns : tie.Need-returns
+returns c = simp (eq-eqb _ _ (c .if1 .taken))
+
+returns-2 : tie.Need-returns-2
+returns-2 c = simp (ne-eqb _ _ (c .if1 .left))
+
+pub picked-spec : {M : Type 1} → statement M
+picked-spec = tie.close (tie.spec returns returns-2)

@@ -1,0 +1,121 @@
+-- Laws of flags that are 0 or 1: such a byte is its own bit; and every flag of a record that could be one is such a byte.
+-- Assumes nothing.
+use mathlib.Core.Path.{_≡_, refl, sym, ap, _∙_}
+use mathlib.Core.Bool.{Bool, true, false}
+use mathlib.Core.List.{List, [], _∷_, _++_}
+use Prim.Native.Nat.{ℕ, zero, suc, _+_, _*_, _<_}
+use native.Mathlib.Omega.{arith}
+use lib.Bits.{bitAnd, and-le-l}
+use lib.Dec.{ltb}
+use borrow.Author.Tests.{ltb-true}
+use Rattle.wire.specs.Flags.{when, bit, isOne, and, not}
+use Rattle.wire.specs.Parts.{_⦂_, sizes}
+use Rattle.s2xv2.specs.Read.{only}
+use Rattle.s2xv2.specs.Table144b.{superframeEnd}
+use Rattle.s2xv2.specs.Options.{isSomeBool, orZero8, some8If, some32If, someBoolIf}
+use Rattle.s2xv2.specs.ListB.{wide}
+use Rattle.s2xv2.proofs.Lists.{narrow}
+use Rattle.s2xv2.specs.Encode.{topBit, scramblingParts, nibbleOf, planParts, blockLength, superframeEndValues}
+use Rattle.s2xv2.specs.declared.superframe.S2Xv2Superframe.{S2Xv2Superframe}
+use Rattle.s2xv2.specs.declared.option.OptionU32.{OptionU32}
+use Rattle.s2xv2.specs.declared.option.OptionU32.the-variants as O32
+use Rattle.flat.specs.Input.{blockIn, valid, flags, recordFlags, blockFlags, named}
+use Rattle.flat.specs.declared.types.FlatSuperframe.{FlatSuperframe}
+use Rattle.flat.specs.declared.types.FlatRecord.{FlatRecord}
+use Rattle.measure.specs.Flagged.{FlaggedBlock, Flagged}
+
+pub never : {X : Type 0} → false ≡ true → X
+never e = absurd (let z : _≡_ {A = ℕ} 0 1 = cc in omega arith)
+
+pub bit-is : (b : ℕ) → b < 2 → bit (isOne b) ≡ b
+bit-is zero h = refl
+bit-is (suc zero) h = refl
+bit-is (suc (suc n)) h = absurd (omega arith)
+
+pub is-bit : (b : Bool) → isOne (bit b) ≡ b
+is-bit true = refl
+is-bit false = refl
+
+pub both-bits : (a b : ℕ) → a < 2 → b < 2 → bitAnd a b ≡ bit (and (isOne a) (isOne b))
+both-bits zero zero h k = refl
+both-bits zero (suc zero) h k = refl
+both-bits (suc zero) zero h k = refl
+both-bits (suc zero) (suc zero) h k = refl
+both-bits (suc (suc n)) b h k = absurd (omega arith)
+both-bits zero (suc (suc n)) h k = absurd (omega arith)
+both-bits (suc zero) (suc (suc n)) h k = absurd (omega arith)
+
+pub bit-below : (b : Bool) → bit b < 2
+bit-below true = omega arith
+bit-below false = omega arith
+
+pub both-small : (a b : ℕ) → a < 2 → bitAnd a b < 2
+both-small a b h = omega (arith, and-le-l a b)
+
+pub only-bit : (b n : ℕ) → b < 2 → only (isOne b) n ≡ b * n
+only-bit zero n h = omega arith
+only-bit (suc zero) n h = omega arith
+only-bit (suc (suc b)) n h = absurd (omega arith)
+
+-- ---- both are set
+
+pub both-left : (a b : Bool) → and a b ≡ true → a ≡ true
+both-left true b e = refl
+both-left false b e = e
+
+pub both-right : (a b : Bool) → and a b ≡ true → b ≡ true
+both-right true b e = e
+both-right false b e = never e
+
+pub four-below : (n a b d e : ℕ) → and (and (ltb a n) (ltb b n)) (and (ltb d n) (ltb e n)) ≡ true → (a < n) × (b < n) × (d < n) × (e < n)
+four-below n a b d e h =
+    let k = both-left (and (ltb a n) (ltb b n)) (and (ltb d n) (ltb e n)) h in
+    let l = both-right (and (ltb a n) (ltb b n)) (and (ltb d n) (ltb e n)) h in
+    (ltb-true a n (both-left (ltb a n) (ltb b n) k), ltb-true b n (both-right (ltb a n) (ltb b n) k), ltb-true d n (both-left (ltb d n) (ltb e n) l), ltb-true e n (both-right (ltb d n) (ltb e n) l))
+
+-- ---- the flags of a record that could be one
+
+module _ (c : FlatRecord) (v : valid c ≡ true) where
+  record-below : flags (recordFlags c) ≡ true
+  unfolding valid
+  record-below = both-left _ _ v
+
+  block-below : flags (blockFlags (c .superframe)) ≡ true
+  unfolding valid
+  block-below = both-left _ _ (both-right (flags (recordFlags c)) _ v)
+
+abbrev AllBelow : List ℕ → Type 0
+AllBelow [] = Unit
+AllBelow (v ∷ vs) = (v < 2) × AllBelow vs
+
+all-below : (vs : List ℕ) → flags vs ≡ true → AllBelow vs
+all-below [] e = tt
+all-below (v ∷ vs) e = (ltb-true v 2 (both-left (ltb v 2) (flags vs) e), all-below vs (both-right (ltb v 2) (flags vs) e))
+
+pub flagged : (c : FlatRecord) → valid c ≡ true → Flagged c
+flagged c v =
+    let e = all-below (recordFlags c) (record-below c v) in
+    let f = all-below (blockFlags (c .superframe)) (block-below c v) in
+    record {
+      reserved = e .0;
+      flag = e .1 .0;
+      reference = e .1 .1 .0;
+      version = e .1 .1 .1 .0;
+      scrambled = e .1 .1 .1 .1 .0;
+      selector = e .1 .1 .1 .1 .1 .0;
+      stream = e .1 .1 .1 .1 .1 .1 .0;
+      index = e .1 .1 .1 .1 .1 .1 .1 .0;
+      timeslice = e .1 .1 .1 .1 .1 .1 .1 .1 .0;
+      superframe = e .1 .1 .1 .1 .1 .1 .1 .1 .1 .0;
+      block = record { selector = f .0; hopping = f .1 .0; sffi = f .1 .1 .0; plan = f .1 .1 .1 .0 };
+    }
+
+-- ---- the size of a block
+
+pub block-size : (f : FlatSuperframe) → FlaggedBlock f → 8 + 4 * f .«beam_hopping_time_plan_selector» ≡ blockLength (blockIn f)
+block-size f g = go (f .«beam_hopping_time_plan_selector») (some32If (isOne (f .«has_beamhopping_time_plan_id»)) (f .«beamhopping_time_plan_id»)) (blockIn f) (g .hopping)
+  where
+    go : (h : ℕ) (o : OptionU32) (b : S2Xv2Superframe) → h < 2 → 8 + 4 * h ≡ 7 + sizes (planParts (isOne h) o ++ (superframeEnd ⦂ superframeEndValues b ∷ []))
+    go zero o b k = refl
+    go (suc zero) o b k = refl
+    go (suc (suc n)) o b k = absurd (omega arith)

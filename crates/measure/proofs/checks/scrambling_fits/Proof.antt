@@ -1,0 +1,19 @@
+-- `measure::checks::scrambling_fits` meets its contract: the tests pick the case.
+-- Assumes nothing.
+use borrow.Author.Tests.{ltb-true}
+use Rattle.measure.proofs.Flags.{never}
+use borrow.Author.Needs.{needs}
+use Rattle.measure.proofs.checks.scrambling_fits.Statement.{statement}
+use Rattle.measure.proofs.checks.scrambling_fits.Tie as tie
+
+returns : tie.Need-returns
+returns c = λ e h. never e
+
+returns-2 : tie.Need-returns-2
+returns-2 c = search needs
+
+returns-3 : tie.Need-returns-3
+returns-3 c = search needs
+
+pub scrambling-fits-spec : {M : Type 1} → statement M
+scrambling-fits-spec = tie.close (tie.spec returns returns-2 returns-3)

@@ -1,0 +1,17 @@
+-- `measure::checks::superframe_fits` meets its contract: the test picks the case.
+-- Assumes nothing.
+use borrow.Author.Needs.{needs}
+use Rattle.measure.proofs.checks.superframe_fits.Statement.{statement}
+use Rattle.measure.proofs.checks.superframe_fits.Tie as tie
+
+block-fits-requires : tie.Need-block-fits-requires
+block-fits-requires c κs = search needs
+
+returns : tie.Need-returns
+returns c = λ e h. c .block-fits .ensures e
+
+returns-2 : tie.Need-returns-2
+returns-2 c = search needs
+
+pub superframe-fits-spec : {M : Type 1} → statement M
+superframe-fits-spec = tie.close (tie.spec block-fits-requires returns returns-2)

@@ -1,0 +1,78 @@
+-- `measure::judged` meets its contract: the laws of the answer say in which order a record is refused.
+-- Assumes nothing.
+use mathlib.Core.Path.{_≡_, sym, ap, _∙_}
+use native.Mathlib.Omega.{arith}
+use denote.Ref.{now}
+use Rattle.s2xv2.specs.Answer.{numbers, told}
+use Rattle.s2xv2.specs.Read.{numberOf}
+use Rattle.s2xv2.specs.ListB.{unwritable}
+use Rattle.s2xv2.specs.Length.{lengthTold}
+use Rattle.s2xv2.proofs.Reach.{refused}
+use Rattle.s2xv2.proofs.Written.{measured, refused-alike, told-room, told-field, told-written}
+use Rattle.flat.specs.Input.{recordIn}
+use borrow.Author.Needs.{needs}
+use Rattle.measure.proofs.judged.Statement.{statement}
+use Rattle.measure.proofs.judged.Tie as tie
+
+judged-len-requires : tie.Need-judged-len-requires
+judged-len-requires c κs = search needs
+
+enum-known-measured : tie.Need-enum-known-measured
+enum-known-measured c = search needs
+
+enum-told : tie.Need-enum-told
+enum-told c = search needs
+
+returns : tie.Need-returns
+returns c =
+    let r = recordIn (c .before .before .before .before .args .c) in
+    let t = now (c .before .before .before .before .args .tail) in
+    let why = c .enum-told .given .0 .0 in
+    let e : numbers why ≡ lengthTold r t = sym (ap told (c .enum-told .given .1)) ∙ c .before .before .judged-len .ensures in
+    c .before .before .judged-len .ensures ∙ sym (refused-alike r t _ (λ z. refused why (ap numberOf e ∙ z)))
+
+returns-2 : tie.Need-returns-2
+returns-2 c =
+    let r = recordIn (c .before .before .before .before .before .before .args .c) in
+    let t = now (c .before .before .before .before .before .before .args .tail) in
+    let m = measured r t _ (sym (ap told (c .before .before .measured .given .1)) ∙ c .before .before .before .before .judged-len .ensures) in
+    let e = told-room r t (m .consistent) (omega (arith, m .size, m .within)) (c .before .before .before .before .before .before .args .room) (omega (arith, m .size, c .if1 .taken)) in
+    sym (rw (m .size) at e)
+
+record-in-requires : tie.Need-record-in-requires
+record-in-requires c κs = search needs
+
+unwritable-requires : tie.Need-unwritable-requires
+unwritable-requires c κs = search needs
+
+returns-3 : tie.Need-returns-3
+returns-3 c =
+    let r = recordIn (c .before .before .before .before .before .before .before .before .before .args .c) in
+    let t = now (c .before .before .before .before .before .before .before .before .before .args .tail) in
+    let m = measured r t _ (sym (ap told (c .before .before .before .before .before .measured .given .1)) ∙ c .before .before .before .before .before .before .before .judged-len .ensures) in
+    let u = c .before .unwritable .ensures ∙ ap unwritable (c .before .before .record-in .ensures) in
+    let e = told-field r t (m .consistent) (omega (arith, m .size, m .within)) (c .before .before .before .before .before .before .before .before .before .args .room) (omega (arith, m .size, c .before .before .before .if1 .left)) (omega (arith, u, c .if2 .taken)) in
+    sym (rw (← u) at e)
+
+returns-4 : tie.Need-returns-4
+returns-4 c =
+    let r = recordIn (c .before .before .before .before .before .before .before .before .before .args .c) in
+    let t = now (c .before .before .before .before .before .before .before .before .before .args .tail) in
+    let m = measured r t _ (sym (ap told (c .before .before .before .before .before .measured .given .1)) ∙ c .before .before .before .before .before .before .before .judged-len .ensures) in
+    let u = c .before .unwritable .ensures ∙ ap unwritable (c .before .before .record-in .ensures) in
+    let e = told-written r t (m .consistent) (omega (arith, m .size, m .within)) (c .before .before .before .before .before .before .before .before .before .args .room) (omega (arith, m .size, c .before .before .before .if1 .left)) (sym u ∙ c .if2 .left) in
+    rw (m .size) at (sym e)
+
+pub judged-spec : {M : Type 1} → statement M
+judged-spec =
+    tie.close
+    (tie.spec
+    judged-len-requires
+    enum-known-measured
+    enum-told
+    returns
+    returns-2
+    record-in-requires
+    unwritable-requires
+    returns-3
+    returns-4)

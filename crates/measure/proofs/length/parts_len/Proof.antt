@@ -1,0 +1,66 @@
+-- `measure::length::parts_len` meets its contract: the parts are counted as the law of their sizes has it.
+-- Assumes nothing.
+use native.Mathlib.Omega.{arith}
+use Rattle.s2xv2.proofs.Whole.{parts-size}
+use Rattle.flat.specs.Input.{recordIn}
+use Rattle.flat.proofs.Back.{is-8, is-selected}
+use Rattle.measure.proofs.Flags.{is-bit}
+use borrow.Author.Needs.{needs}
+use Rattle.measure.proofs.length.parts_len.Statement.{statement}
+use Rattle.measure.proofs.length.parts_len.Tie as tie
+
+both-requires : tie.Need-both-requires
+both-requires c κs = search needs
+
+byte-len-requires : tie.Need-byte-len-requires
+byte-len-requires c κs = search needs
+
+add-result : tie.Need-add-result
+add-result c = search needs
+
+scrambling-len-requires : tie.Need-scrambling-len-requires
+scrambling-len-requires c κs = search needs
+
+add-result-2 : tie.Need-add-result-2
+add-result-2 c = search needs
+
+byte-len-requires-2 : tie.Need-byte-len-requires-2
+byte-len-requires-2 c κs = search needs
+
+add-result-3 : tie.Need-add-result-3
+add-result-3 c = search needs
+
+bond-len-requires : tie.Need-bond-len-requires
+bond-len-requires c κs = search needs
+
+add-result-4 : tie.Need-add-result-4
+add-result-4 c = search needs
+
+superframe-len-requires : tie.Need-superframe-len-requires
+superframe-len-requires c κs = search needs
+
+add-result-5 : tie.Need-add-result-5
+add-result-5 c = search needs
+
+returns : tie.Need-returns
+returns c =
+    let e = simp (is-8, is-selected) at (parts-size (recordIn (c .before .before .before .before .before .before .before .args .c))) in
+    let k = rw (c .before .before .before .before .before .both .ensures .0, is-bit) at (c .before .before .before .scrambling-len .ensures) in
+    (omega (arith, c .superframe-len .ensures, c .before .bond-len .ensures, c .before .before .byte-len2 .ensures, k, c .before .before .before .before .byte-len .ensures, e), omega arith)
+
+pub parts-len-spec : {M : Type 1} → statement M
+parts-len-spec =
+    tie.close
+    (tie.spec
+    both-requires
+    byte-len-requires
+    add-result
+    scrambling-len-requires
+    add-result-2
+    byte-len-requires-2
+    add-result-3
+    bond-len-requires
+    add-result-4
+    superframe-len-requires
+    add-result-5
+    returns)

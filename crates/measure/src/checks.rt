@@ -1,0 +1,175 @@
+// Whether a record passes lists A and B: every test at once, with no place told. A flag is 0 or 1.
+ghost use mathlib.Core.Path.{_≡_};
+ghost use mathlib.Core.Bool.{true};
+ghost use Prim.Native.Nat.{_+_, _*_, _<_};
+ghost use Rattle.flat.specs.Input.{recordIn};
+ghost use Rattle.measure.specs.Flagged.{FlaggedBlock, Flagged};
+ghost use Rattle.measure.specs.Checks.{dueOf, Agrees, CoreFits, ScramblingFits, BondsFit, BlockFits, SuperframeFits, Checked};
+use crate::flag::both;
+use flat::input::joined;
+use flat::input::picked;
+use flat::types::FlatRecord;
+use flat::types::FlatSuperframe;
+use lists::list_b::less_one;
+
+// What a mode asks for, as `seen` counts it.
+fn due(code: u8) -> u32
+    ensures { λ r. ⌜ r ≡ dueOf code ⌝ }
+{
+    match code {
+        0 => 0,
+        1 => 1,
+        2 => 3,
+        3 => 0,
+        4 => 4,
+        5 => 6,
+        _ => 8,
+    }
+}
+
+// The parts that a mode asks for, and whether it has no name, as one number.
+fn seen(selector: u8, timeslice: u8, superframe: u8, reserved: u8) -> u32
+    ensures { λ r. ⌜ r ≡ selector + 2 * timeslice + 4 * superframe + 8 * reserved ⌝ }
+{
+    (selector as u32) + 2 * (timeslice as u32) + 4 * (superframe as u32) + 8 * (reserved as u32)
+}
+
+// What mode and flags say of the parts is so.
+fn agrees(c: FlatRecord) -> bool
+    requires { ⌜ Flagged c ⌝ }
+    ensures { λ r. ⌜ (r ≡ true → Agrees c) ⌝ }
+{
+    let scrambled = both(
+        c.has_scrambling_sequence_selector,
+        c.scrambling_sequence_selector,
+    );
+    let parts = seen(
+        c.has_scrambling_sequence_selector,
+        c.has_timeslice_number,
+        c.has_superframe,
+        c.mode_is_reserved,
+    );
+    if c.has_input_stream_identifier != c.multiple_input_stream_flag {
+        false
+    } else if parts != due(c.s2xv2_mode) {
+        false
+    } else {
+        scrambled == c.has_scrambling_sequence_index
+    }
+}
+
+// The wire can carry the core.
+fn core_fits(c: FlatRecord) -> bool
+    ensures { λ r. ⌜ (r ≡ true → CoreFits c) ⌝ }
+{
+    let first = joined(c.reserved_zero_future_use_2, c.channel_bond);
+    let second = joined(c.polarization, c.ts_gs_s2x_mode);
+    let top = picked(
+        c.has_scrambling_sequence_selector,
+        0,
+        c.reserved_zero_future_use_1,
+    );
+    if 4 <= joined(first, second) {
+        false
+    } else if 16 <= c.s2xv2_mode {
+        false
+    } else if 8 <= c.roll_off {
+        false
+    } else if 32 <= c.receiver_profiles {
+        false
+    } else if 2 <= top {
+        false
+    } else {
+        c.satellite_id < 16777216
+    }
+}
+
+// The wire can carry the scrambling index, where it is there.
+fn scrambling_fits(there: u8, index: u32, reserved: u8) -> bool
+    ensures { λ r. ⌜ (r ≡ true → ScramblingFits there index reserved) ⌝ }
+{
+    if there == 1 {
+        if 262144 <= index {
+            false
+        } else {
+            reserved < 64
+        }
+    } else {
+        true
+    }
+}
+
+// Under channel_bond 1 there are one or two bonds, and the wire can carry their header; else there is none.
+fn bonds_fit(bond: u8, count: u8, reserved: u8) -> bool
+    ensures { λ r. ⌜ (r ≡ true → BondsFit bond count reserved) ⌝ }
+{
+    if bond == 1 {
+        if 2 <= less_one(count) {
+            false
+        } else {
+            reserved < 128
+        }
+    } else {
+        count == 0
+    }
+}
+
+// The block has what its selectors say, and the wire can carry it.
+fn block_fits(f: FlatSuperframe) -> bool
+    ensures { λ r. ⌜ (r ≡ true → BlockFits f) ⌝ }
+{
+    if 1048576 <= f.reference_scrambling_index {
+        false
+    } else if 1048576 <= f.payload_scrambling_index {
+        false
+    } else if 4 <= f.reserved_zero_future_use_2 {
+        false
+    } else if f.has_sffi != f.sffi_selector {
+        false
+    } else if 16 <= picked(f.sffi_selector, f.sffi, f.reserved_zero_future_use_4) {
+        false
+    } else if f.has_beamhopping_time_plan_id != f.beam_hopping_time_plan_selector {
+        false
+    } else if 32 <= f.superframe_pilots_wh_sequence_number {
+        false
+    } else {
+        f.postamble_pli < 8
+    }
+}
+
+// The same of a block that may be absent.
+fn superframe_fits(there: u8, f: FlatSuperframe) -> bool
+    ensures { λ r. ⌜ (r ≡ true → SuperframeFits there f) ⌝ }
+{
+    if there == 1 { block_fits(f) } else { true }
+}
+
+// The record passes both lists.
+pub(crate) fn is_checked(c: FlatRecord) -> bool
+    requires { ⌜ Flagged c ⌝ }
+    ensures { λ r. ⌜ (r ≡ true → Checked (recordIn c)) ⌝ }
+{
+    let block = c.superframe;
+    if !agrees(c) {
+        return false;
+    }
+    if !core_fits(c) {
+        return false;
+    }
+    if !superframe_fits(c.has_superframe, block) {
+        return false;
+    }
+    let carried = scrambling_fits(
+        c.has_scrambling_sequence_index,
+        c.scrambling_sequence_index,
+        c.reserved_zero_future_use_6,
+    );
+    if !carried {
+        return false;
+    }
+    bonds_fit(
+        c.channel_bond,
+        c.num_channel_bonds,
+        c.reserved_zero_future_use_7,
+    )
+}
