@@ -8,6 +8,7 @@ use lib.ListN.{drop}
 use lib.Dec.{eqb}
 use denote.Ref.{now}
 use Rattle.wire.specs.Store.{stored}
+use Rattle.wire.specs.Parts.{sizes}
 use Rattle.wire.proofs.Stores.{run, stored-front}
 use Rattle.s2xv2.specs.Encode.{streamOf, scramblingOf, timesliceOf, bondOf, superframeOf, encode, encodedLength}
 use Rattle.s2xv2.proofs.Whole.{whole-byte, whole-scrambling, whole-bond, whole-superframe, encode-length}
@@ -34,13 +35,13 @@ unfolding encodedLength
 put-scrambling-requires c κs =
     let r = recordIn (c .before .before .before .before .before .before .before .before .before .before .before .args .t2) in
     let b = clear-parts r (c .before .before .before .before .before .before .before .before .before .before .before .pre .1 .1) .1 in
-    (rw (scrambling-same (c .before .before .before .before .before .before .before .before .before .before .before .args .t2) b) (omega (arith, parts-split r, c .before .before .before .before .before .before .before .before .before .before .before .pre .0, c .before .before .before .before .before .before .before .put-core .kept .0, c .before .before .before .put-byte .kept .0, c .before .before .before .put-byte .ensures .0)), (scrambling-narrow (c .before .before .before .before .before .before .before .before .before .before .before .args .t2) b))
+    (omega (arith, parts-split r, c .before .before .before .before .before .before .before .before .before .before .before .pre .0, c .before .before .before .before .before .before .before .put-core .kept .0, c .before .before .before .put-byte .kept .0, c .before .before .before .put-byte .ensures .0, ap sizes (scrambling-same (c .before .before .before .before .before .before .before .before .before .before .before .args .t2) b)), (scrambling-narrow (c .before .before .before .before .before .before .before .before .before .before .before .args .t2) b))
 
 put-byte-requires-2 : tie.Need-put-byte-requires-2
 unfolding encodedLength
 put-byte-requires-2 c κs =
     let r = recordIn (c .before .before .before .before .before .before .before .before .before .before .before .before .before .before .before .args .t2) in
-    omega (arith, parts-split r, c .before .before .before .before .before .before .before .before .before .before .before .before .before .before .before .pre .0, c .before .before .before .before .before .before .before .before .before .before .before .put-core .kept .0, c .before .before .before .before .before .before .before .put-byte .kept .0, c .before .before .before .before .before .before .before .put-byte .ensures .0, c .before .before .before .put-scrambling .kept .0, rw (scrambling-same (c .before .before .before .before .before .before .before .before .before .before .before .before .before .before .before .args .t2) (clear-parts r (c .before .before .before .before .before .before .before .before .before .before .before .before .before .before .before .pre .1 .1) .1)) at (c .before .before .before .put-scrambling .ensures .0))
+    omega (arith, parts-split r, c .before .before .before .before .before .before .before .before .before .before .before .before .before .before .before .pre .0, c .before .before .before .before .before .before .before .before .before .before .before .put-core .kept .0, c .before .before .before .before .before .before .before .put-byte .kept .0, c .before .before .before .before .before .before .before .put-byte .ensures .0, c .before .before .before .put-scrambling .kept .0, c .before .before .before .put-scrambling .ensures .0, ap sizes (scrambling-same (c .before .before .before .before .before .before .before .before .before .before .before .before .before .before .before .args .t2) (clear-parts r (c .before .before .before .before .before .before .before .before .before .before .before .before .before .before .before .pre .1 .1) .1)))
 
 less-one-requires : tie.Need-less-one-requires
 less-one-requires c κs = search needs
@@ -62,19 +63,19 @@ unfolding encodedLength
 put-bonds-requires c κs =
     let r = recordIn (c .before .before .before .before .before .before .before .before .before .before .before .before .before .before .before .before .before .before .before .before .before .before .args .t2) in
     let b = clear-parts r (c .before .before .before .before .before .before .before .before .before .before .before .before .before .before .before .before .before .before .before .before .before .before .pre .1 .1) .2 in
-    (rw (bonds-same (eqb (c .before .before .before .before .before .before .before .before .before .before .before .before .before .before .before .before .before .before .before .before .before .before .args .t2 .«channel_bond») 1) (c .before .before .before .before .before .before .before .before .before .before .before .before .before .before .before .before .before .before .before .before .before .before .args .t2 .«reserved_zero_future_use_7») (c .before .before .before .before .before .before .before .before .before .before .before .before .before .before .before .before .before .before .before .before .before .before .args .t2 .«num_channel_bonds») _ (c .before .before .before .before .before .before .before .before .before .before .before .before .before .before .before .before .before .before .before .before .before .before .args .t2 .«secondary_delivery_system_ids») (ap (λ (k : ℕ). k % 2) (c .before .before .before .less-one .ensures)) (clear-parts r (c .before .before .before .before .before .before .before .before .before .before .before .before .before .before .before .before .before .before .before .before .before .before .pre .1 .1) .2 .0)) (omega (arith, parts-split r, c .before .before .before .before .before .before .before .before .before .before .before .before .before .before .before .before .before .before .before .before .before .before .pre .0, c .before .before .before .before .before .before .before .before .before .before .before .before .before .before .before .before .before .before .put-core .kept .0, c .before .before .before .before .before .before .before .before .before .before .before .before .before .before .put-byte .kept .0, c .before .before .before .before .before .before .before .before .before .before .before .before .before .before .put-byte .ensures .0, c .before .before .before .before .before .before .before .before .before .before .put-scrambling .kept .0, rw (scrambling-same (c .before .before .before .before .before .before .before .before .before .before .before .before .before .before .before .before .before .before .before .before .before .before .args .t2) (clear-parts r (c .before .before .before .before .before .before .before .before .before .before .before .before .before .before .before .before .before .before .before .before .before .before .pre .1 .1) .1)) at (c .before .before .before .before .before .before .before .before .before .before .put-scrambling .ensures .0), c .before .before .before .before .before .before .put-byte2 .kept .0, c .before .before .before .before .before .before .put-byte2 .ensures .0)), (b .0, b .1 .0))
+    (omega (arith, parts-split r, c .before .before .before .before .before .before .before .before .before .before .before .before .before .before .before .before .before .before .before .before .before .before .pre .0, c .before .before .before .before .before .before .before .before .before .before .before .before .before .before .before .before .before .before .put-core .kept .0, c .before .before .before .before .before .before .before .before .before .before .before .before .before .before .put-byte .kept .0, c .before .before .before .before .before .before .before .before .before .before .before .before .before .before .put-byte .ensures .0, c .before .before .before .before .before .before .before .before .before .before .put-scrambling .kept .0, rw (scrambling-same (c .before .before .before .before .before .before .before .before .before .before .before .before .before .before .before .before .before .before .before .before .before .before .args .t2) (clear-parts r (c .before .before .before .before .before .before .before .before .before .before .before .before .before .before .before .before .before .before .before .before .before .before .pre .1 .1) .1)) at (c .before .before .before .before .before .before .before .before .before .before .put-scrambling .ensures .0), c .before .before .before .before .before .before .put-byte2 .kept .0, c .before .before .before .before .before .before .put-byte2 .ensures .0, ap sizes (bonds-same (eqb (c .before .before .before .before .before .before .before .before .before .before .before .before .before .before .before .before .before .before .before .before .before .before .args .t2 .«channel_bond») 1) (c .before .before .before .before .before .before .before .before .before .before .before .before .before .before .before .before .before .before .before .before .before .before .args .t2 .«reserved_zero_future_use_7») (c .before .before .before .before .before .before .before .before .before .before .before .before .before .before .before .before .before .before .before .before .before .before .args .t2 .«num_channel_bonds») _ (c .before .before .before .before .before .before .before .before .before .before .before .before .before .before .before .before .before .before .before .before .before .before .args .t2 .«secondary_delivery_system_ids») (ap (λ (k : ℕ). k % 2) (c .before .before .before .less-one .ensures)) (clear-parts r (c .before .before .before .before .before .before .before .before .before .before .before .before .before .before .before .before .before .before .before .before .before .before .pre .1 .1) .2 .0))), (b .0, b .1 .0))
 
 put-superframe-requires : tie.Need-put-superframe-requires
 unfolding encodedLength
 put-superframe-requires c κs =
     let r = recordIn (c .before .before .before .before .before .before .before .before .before .before .before .before .before .before .before .before .before .before .before .before .before .before .before .before .before .before .before .args .t2) in
-    (omega (arith, parts-split r, c .before .before .before .before .before .before .before .before .before .before .before .before .before .before .before .before .before .before .before .before .before .before .before .before .before .before .before .pre .0, c .before .before .before .before .before .before .before .before .before .before .before .before .before .before .before .before .before .before .before .before .before .before .before .put-core .kept .0, c .before .before .before .before .before .before .before .before .before .before .before .before .before .before .before .before .before .before .before .put-byte .kept .0, c .before .before .before .before .before .before .before .before .before .before .before .before .before .before .before .before .before .before .before .put-byte .ensures .0, c .before .before .before .before .before .before .before .before .before .before .before .before .before .before .before .put-scrambling .kept .0, rw (scrambling-same (c .before .before .before .before .before .before .before .before .before .before .before .before .before .before .before .before .before .before .before .before .before .before .before .before .before .before .before .args .t2) (clear-parts r (c .before .before .before .before .before .before .before .before .before .before .before .before .before .before .before .before .before .before .before .before .before .before .before .before .before .before .before .pre .1 .1) .1)) at (c .before .before .before .before .before .before .before .before .before .before .before .before .before .before .before .put-scrambling .ensures .0), c .before .before .before .before .before .before .before .before .before .before .before .put-byte2 .kept .0, c .before .before .before .before .before .before .before .before .before .before .before .put-byte2 .ensures .0, c .before .before .before .before .put-bonds .kept .0, rw (bonds-same (eqb (c .before .before .before .before .before .before .before .before .before .before .before .before .before .before .before .before .before .before .before .before .before .before .before .before .before .before .before .args .t2 .«channel_bond») 1) (c .before .before .before .before .before .before .before .before .before .before .before .before .before .before .before .before .before .before .before .before .before .before .before .before .before .before .before .args .t2 .«reserved_zero_future_use_7») (c .before .before .before .before .before .before .before .before .before .before .before .before .before .before .before .before .before .before .before .before .before .before .before .before .before .before .before .args .t2 .«num_channel_bonds») _ (c .before .before .before .before .before .before .before .before .before .before .before .before .before .before .before .before .before .before .before .before .before .before .before .before .before .before .before .args .t2 .«secondary_delivery_system_ids») (ap (λ (k : ℕ). k % 2) (c .before .before .before .before .before .before .before .before .less-one .ensures)) (clear-parts r (c .before .before .before .before .before .before .before .before .before .before .before .before .before .before .before .before .before .before .before .before .before .before .before .before .before .before .before .pre .1 .1) .2 .0)) at (c .before .before .before .before .put-bonds .ensures .0)), (c .before .before .before .before .before .before .before .before .before .before .before .before .before .before .before .before .before .before .before .before .before .before .before .before .before .before .before .pre .1 .0 .block, clear-parts r (c .before .before .before .before .before .before .before .before .before .before .before .before .before .before .before .before .before .before .before .before .before .before .before .before .before .before .before .pre .1 .1) .3))
+    (omega (arith, parts-split r, c .before .before .before .before .before .before .before .before .before .before .before .before .before .before .before .before .before .before .before .before .before .before .before .before .before .before .before .pre .0, c .before .before .before .before .before .before .before .before .before .before .before .before .before .before .before .before .before .before .before .before .before .before .before .put-core .kept .0, c .before .before .before .before .before .before .before .before .before .before .before .before .before .before .before .before .before .before .before .put-byte .kept .0, c .before .before .before .before .before .before .before .before .before .before .before .before .before .before .before .before .before .before .before .put-byte .ensures .0, c .before .before .before .before .before .before .before .before .before .before .before .before .before .before .before .put-scrambling .kept .0, c .before .before .before .before .before .before .before .before .before .before .before .before .before .before .before .put-scrambling .ensures .0, ap sizes (scrambling-same (c .before .before .before .before .before .before .before .before .before .before .before .before .before .before .before .before .before .before .before .before .before .before .before .before .before .before .before .args .t2) (clear-parts r (c .before .before .before .before .before .before .before .before .before .before .before .before .before .before .before .before .before .before .before .before .before .before .before .before .before .before .before .pre .1 .1) .1)), c .before .before .before .before .before .before .before .before .before .before .before .put-byte2 .kept .0, c .before .before .before .before .before .before .before .before .before .before .before .put-byte2 .ensures .0, c .before .before .before .before .put-bonds .kept .0, c .before .before .before .before .put-bonds .ensures .0, ap sizes (bonds-same (eqb (c .before .before .before .before .before .before .before .before .before .before .before .before .before .before .before .before .before .before .before .before .before .before .before .before .before .before .before .args .t2 .«channel_bond») 1) (c .before .before .before .before .before .before .before .before .before .before .before .before .before .before .before .before .before .before .before .before .before .before .before .before .before .before .before .args .t2 .«reserved_zero_future_use_7») (c .before .before .before .before .before .before .before .before .before .before .before .before .before .before .before .before .before .before .before .before .before .before .before .before .before .before .before .args .t2 .«num_channel_bonds») _ (c .before .before .before .before .before .before .before .before .before .before .before .before .before .before .before .before .before .before .before .before .before .before .before .before .before .before .before .args .t2 .«secondary_delivery_system_ids») (ap (λ (k : ℕ). k % 2) (c .before .before .before .before .before .before .before .before .less-one .ensures)) (clear-parts r (c .before .before .before .before .before .before .before .before .before .before .before .before .before .before .before .before .before .before .before .before .before .before .before .before .before .before .before .pre .1 .1) .2 .0))), (c .before .before .before .before .before .before .before .before .before .before .before .before .before .before .before .before .before .before .before .before .before .before .before .before .before .before .before .pre .1 .0 .block, clear-parts r (c .before .before .before .before .before .before .before .before .before .before .before .before .before .before .before .before .before .before .before .before .before .before .before .before .before .before .before .pre .1 .1) .3))
 
 copy-requires : tie.Need-copy-requires
 unfolding encodedLength
 copy-requires c κs =
     let r = recordIn (c .before .before .before .before .before .before .before .before .before .before .before .before .before .before .before .before .before .before .before .before .before .before .before .before .before .before .before .before .before .before .before .args .t2) in
-    omega (arith, parts-split r, c .before .before .before .before .before .before .before .before .before .before .before .before .before .before .before .before .before .before .before .before .before .before .before .before .before .before .before .before .before .before .before .pre .0, c .before .before .before .before .before .before .before .before .before .before .before .before .before .before .before .before .before .before .before .before .before .before .before .before .before .before .before .put-core .kept .0, c .before .before .before .before .before .before .before .before .before .before .before .before .before .before .before .before .before .before .before .before .before .before .before .put-byte .kept .0, c .before .before .before .before .before .before .before .before .before .before .before .before .before .before .before .before .before .before .before .before .before .before .before .put-byte .ensures .0, c .before .before .before .before .before .before .before .before .before .before .before .before .before .before .before .before .before .before .before .put-scrambling .kept .0, rw (scrambling-same (c .before .before .before .before .before .before .before .before .before .before .before .before .before .before .before .before .before .before .before .before .before .before .before .before .before .before .before .before .before .before .before .args .t2) (clear-parts r (c .before .before .before .before .before .before .before .before .before .before .before .before .before .before .before .before .before .before .before .before .before .before .before .before .before .before .before .before .before .before .before .pre .1 .1) .1)) at (c .before .before .before .before .before .before .before .before .before .before .before .before .before .before .before .before .before .before .before .put-scrambling .ensures .0), c .before .before .before .before .before .before .before .before .before .before .before .before .before .before .before .put-byte2 .kept .0, c .before .before .before .before .before .before .before .before .before .before .before .before .before .before .before .put-byte2 .ensures .0, c .before .before .before .before .before .before .before .before .put-bonds .kept .0, rw (bonds-same (eqb (c .before .before .before .before .before .before .before .before .before .before .before .before .before .before .before .before .before .before .before .before .before .before .before .before .before .before .before .before .before .before .before .args .t2 .«channel_bond») 1) (c .before .before .before .before .before .before .before .before .before .before .before .before .before .before .before .before .before .before .before .before .before .before .before .before .before .before .before .before .before .before .before .args .t2 .«reserved_zero_future_use_7») (c .before .before .before .before .before .before .before .before .before .before .before .before .before .before .before .before .before .before .before .before .before .before .before .before .before .before .before .before .before .before .before .args .t2 .«num_channel_bonds») _ (c .before .before .before .before .before .before .before .before .before .before .before .before .before .before .before .before .before .before .before .before .before .before .before .before .before .before .before .before .before .before .before .args .t2 .«secondary_delivery_system_ids») (ap (λ (k : ℕ). k % 2) (c .before .before .before .before .before .before .before .before .before .before .before .before .less-one .ensures)) (clear-parts r (c .before .before .before .before .before .before .before .before .before .before .before .before .before .before .before .before .before .before .before .before .before .before .before .before .before .before .before .before .before .before .before .pre .1 .1) .2 .0)) at (c .before .before .before .before .before .before .before .before .put-bonds .ensures .0), c .before .before .before .put-superframe .kept .0, c .before .before .before .put-superframe .ensures .0)
+    omega (arith, parts-split r, c .before .before .before .before .before .before .before .before .before .before .before .before .before .before .before .before .before .before .before .before .before .before .before .before .before .before .before .before .before .before .before .pre .0, c .before .before .before .before .before .before .before .before .before .before .before .before .before .before .before .before .before .before .before .before .before .before .before .before .before .before .before .put-core .kept .0, c .before .before .before .before .before .before .before .before .before .before .before .before .before .before .before .before .before .before .before .before .before .before .before .put-byte .kept .0, c .before .before .before .before .before .before .before .before .before .before .before .before .before .before .before .before .before .before .before .before .before .before .before .put-byte .ensures .0, c .before .before .before .before .before .before .before .before .before .before .before .before .before .before .before .before .before .before .before .put-scrambling .kept .0, c .before .before .before .before .before .before .before .before .before .before .before .before .before .before .before .before .before .before .before .put-scrambling .ensures .0, ap sizes (scrambling-same (c .before .before .before .before .before .before .before .before .before .before .before .before .before .before .before .before .before .before .before .before .before .before .before .before .before .before .before .before .before .before .before .args .t2) (clear-parts r (c .before .before .before .before .before .before .before .before .before .before .before .before .before .before .before .before .before .before .before .before .before .before .before .before .before .before .before .before .before .before .before .pre .1 .1) .1)), c .before .before .before .before .before .before .before .before .before .before .before .before .before .before .before .put-byte2 .kept .0, c .before .before .before .before .before .before .before .before .before .before .before .before .before .before .before .put-byte2 .ensures .0, c .before .before .before .before .before .before .before .before .put-bonds .kept .0, c .before .before .before .before .before .before .before .before .put-bonds .ensures .0, ap sizes (bonds-same (eqb (c .before .before .before .before .before .before .before .before .before .before .before .before .before .before .before .before .before .before .before .before .before .before .before .before .before .before .before .before .before .before .before .args .t2 .«channel_bond») 1) (c .before .before .before .before .before .before .before .before .before .before .before .before .before .before .before .before .before .before .before .before .before .before .before .before .before .before .before .before .before .before .before .args .t2 .«reserved_zero_future_use_7») (c .before .before .before .before .before .before .before .before .before .before .before .before .before .before .before .before .before .before .before .before .before .before .before .before .before .before .before .before .before .before .before .args .t2 .«num_channel_bonds») _ (c .before .before .before .before .before .before .before .before .before .before .before .before .before .before .before .before .before .before .before .before .before .before .before .before .before .before .before .before .before .before .before .args .t2 .«secondary_delivery_system_ids») (ap (λ (k : ℕ). k % 2) (c .before .before .before .before .before .before .before .before .before .before .before .before .less-one .ensures)) (clear-parts r (c .before .before .before .before .before .before .before .before .before .before .before .before .before .before .before .before .before .before .before .before .before .before .before .before .before .before .before .before .before .before .before .pre .1 .1) .2 .0)), c .before .before .before .put-superframe .kept .0, c .before .before .before .put-superframe .ensures .0)
 
 same-length : tie.Need-same-length
 same-length c = omega (arith, c .before .before .before .before .before .before .before .before .before .before .before .before .before .before .before .before .before .before .before .before .before .before .before .before .before .before .before .before .before .before .put-core .kept .0, c .before .before .before .before .before .before .before .before .before .before .before .before .before .before .before .before .before .before .before .before .before .before .before .before .before .before .put-byte .kept .0, c .before .before .before .before .before .before .before .before .before .before .before .before .before .before .before .before .before .before .before .before .before .before .put-scrambling .kept .0, c .before .before .before .before .before .before .before .before .before .before .before .before .before .before .before .before .before .before .put-byte2 .kept .0, c .before .before .before .before .before .before .before .before .before .before .before .put-bonds .kept .0, c .before .before .before .before .before .before .put-superframe .kept .0, c .before .before .copy .kept .0)
