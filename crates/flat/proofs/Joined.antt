@@ -8,8 +8,10 @@ use lib.Dec.{ltb}
 use lib.Bits.{bitOr, bitAnd, or-lt, or-add-and, and-le-l, and-le-r}
 use borrow.Author.Tests.{lt-ltb, le-ltb, ltb-true, ltb-false}
 use Rattle.wire.specs.Flags.{and}
+use Rattle.flat.specs.Input.{joinedOf}
 
-pub joined-below : (k a b : ℕ) → ltb (bitOr a b) (2 ^ k) ≡ and (ltb a (2 ^ k)) (ltb b (2 ^ k))
+pub joined-below : (k a b : ℕ) → ltb (joinedOf a b) (2 ^ k) ≡ and (ltb a (2 ^ k)) (ltb b (2 ^ k))
+unfolding joinedOf
 joined-below k a b = go (ltb a (2 ^ k)) (ltb b (2 ^ k)) refl refl
   where
     go : (s t : Bool) → ltb a (2 ^ k) ≡ s → ltb b (2 ^ k) ≡ t → ltb (bitOr a b) (2 ^ k) ≡ and s t

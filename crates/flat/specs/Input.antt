@@ -1,10 +1,9 @@
 -- What comes from C: `recordIn` is the record that is meant, `blockIn` its block, `modeIn` its mode. `valid` says that there is one: all `flags`, those of `recordFlags` and of `blockFlags`, are 0 or 1, and
--- a mode without `Reserved` is one that has a name (`named`). `foreign` is what is answered where there is none. `Joined` says of a number that it is below a power of two only if two
--- others are. Assumes nothing.
-use Prim.Native.Nat.{ℕ, _^_}
-use mathlib.Core.Path.{_≡_}
+-- a mode without `Reserved` is one that has a name (`named`). `foreign` is what is answered where there is none. `joinedOf` two numbers has the bits of both. Assumes nothing.
+use Prim.Native.Nat.{ℕ}
 use mathlib.Core.List.{List, [], _∷_, _++_}
 use mathlib.Core.Bool.{Bool, true}
+use lib.Bits.{bitOr}
 use lib.Dec.{ltb}
 use Rattle.wire.specs.Flags.{when, isOne, and}
 use Rattle.s2xv2.specs.Table144c.{modeOf}
@@ -101,6 +100,6 @@ valid c = and (flags (recordFlags c)) (and (flags (blockFlags (c .superframe))) 
 abbrev pub foreign : FlatAnswer
 foreign = record { number = 100; first = 0; second = 0; third = 0 }
 
--- a number that is below a power of two only if a and b are
-abbrev pub Joined : ℕ → ℕ → ℕ → Type 0
-Joined a b r = (k : ℕ) → ltb r (2 ^ k) ≡ and (ltb a (2 ^ k)) (ltb b (2 ^ k))
+-- the bits of both numbers
+unfoldable pub joinedOf : ℕ → ℕ → ℕ
+joinedOf a b = bitOr a b

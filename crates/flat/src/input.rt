@@ -3,7 +3,7 @@ ghost use mathlib.Core.Path.{_≡_};
 ghost use lib.Dec.{ltb};
 ghost use Rattle.wire.specs.Flags.{when, isOne, and};
 ghost use Rattle.s2xv2.specs.Options.{someBoolIf, some8If, some32If, someSuperframeIf};
-ghost use Rattle.flat.specs.Input.{modeIn, blockIn, recordIn, blockFlags, recordFlags, flags, named, valid, Joined};
+ghost use Rattle.flat.specs.Input.{modeIn, blockIn, recordIn, blockFlags, recordFlags, flags, named, valid, joinedOf};
 use crate::types::FlatRecord;
 use crate::types::FlatSuperframe;
 use s2xv2::mode::S2Xv2Mode;
@@ -147,7 +147,7 @@ pub fn picked(flag: u8, first: u8, second: u8) -> u8
 
 // The bits of both bytes: below a power of two only if both are.
 pub fn joined(a: u8, b: u8) -> u8
-    ensures { λ r. ⌜ Joined a b r ⌝ }
+    ensures { λ r. ⌜ r ≡ joinedOf a b ⌝ }
 {
     a | b
 }

@@ -1,13 +1,13 @@
 -- Laws of flags that are 0 or 1: such a byte is its own bit; and every flag of a record that could be one is such a byte.
 -- Assumes nothing.
-use mathlib.Core.Path.{_≡_, refl, sym, ap, _∙_}
+use mathlib.Core.Path.{_≡_, refl, sym, ap, ap₂, _∙_}
 use mathlib.Core.Bool.{Bool, true, false}
 use mathlib.Core.List.{List, [], _∷_, _++_}
 use Prim.Native.Nat.{ℕ, zero, suc, _+_, _*_, _<_}
 use native.Mathlib.Omega.{arith}
 use lib.Bits.{bitAnd, and-le-l}
 use lib.Dec.{ltb}
-use borrow.Author.Tests.{ltb-true}
+use borrow.Author.Tests.{ltb-true, lt-ltb}
 use Rattle.wire.specs.Flags.{when, bit, isOne, and, not}
 use Rattle.wire.specs.Parts.{_⦂_, sizes}
 use Rattle.s2xv2.specs.Read.{only}
@@ -19,7 +19,8 @@ use Rattle.s2xv2.specs.Encode.{topBit, scramblingParts, nibbleOf, planParts, bl
 use Rattle.s2xv2.specs.declared.superframe.S2Xv2Superframe.{S2Xv2Superframe}
 use Rattle.s2xv2.specs.declared.option.OptionU32.{OptionU32}
 use Rattle.s2xv2.specs.declared.option.OptionU32.the-variants as O32
-use Rattle.flat.specs.Input.{blockIn, valid, flags, recordFlags, blockFlags, named}
+use Rattle.flat.specs.Input.{blockIn, valid, flags, recordFlags, blockFlags, named, joinedOf}
+use Rattle.flat.proofs.Joined.{joined-below}
 use Rattle.flat.specs.declared.types.FlatSuperframe.{FlatSuperframe}
 use Rattle.flat.specs.declared.types.FlatRecord.{FlatRecord}
 use Rattle.measure.specs.Flagged.{FlaggedBlock, Flagged}
@@ -67,11 +68,20 @@ pub both-right : (a b : Bool) → and a b ≡ true → b ≡ true
 both-right true b e = e
 both-right false b e = never e
 
-pub four-below : (n a b d e : ℕ) → and (and (ltb a n) (ltb b n)) (and (ltb d n) (ltb e n)) ≡ true → (a < n) × (b < n) × (d < n) × (e < n)
+four-below : (n a b d e : ℕ) → and (and (ltb a n) (ltb b n)) (and (ltb d n) (ltb e n)) ≡ true → (a < n) × (b < n) × (d < n) × (e < n)
 four-below n a b d e h =
     let k = both-left (and (ltb a n) (ltb b n)) (and (ltb d n) (ltb e n)) h in
     let l = both-right (and (ltb a n) (ltb b n)) (and (ltb d n) (ltb e n)) h in
     (ltb-true a n (both-left (ltb a n) (ltb b n) k), ltb-true b n (both-right (ltb a n) (ltb b n) k), ltb-true d n (both-left (ltb d n) (ltb e n) l), ltb-true e n (both-right (ltb d n) (ltb e n) l))
+
+-- four numbers whose bits, taken together, are below 4
+pub four-joined : (a b d e x y r : ℕ) → x ≡ joinedOf a b → y ≡ joinedOf d e → r ≡ joinedOf x y → r < 4 → (a < 4) × (b < 4) × (d < 4) × (e < 4)
+four-joined a b d e x y r i j k h =
+    four-below 4 a b d e
+    (ap₂ and (sym (joined-below 2 a b) ∙ ap below (sym i)) (sym (joined-below 2 d e) ∙ ap below (sym j)) ∙ sym (joined-below 2 x y) ∙ ap below (sym k) ∙ lt-ltb r 4 h)
+  where
+    below : ℕ → Bool
+    below n = ltb n 4
 
 -- ---- the flags of a record that could be one
 

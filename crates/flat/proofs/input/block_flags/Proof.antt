@@ -1,6 +1,6 @@
 -- `flat::input::block_flags` meets its contract: joined flags are below 2 only if each is.
 -- Assumes nothing.
-use Rattle.flat.proofs.Joined.{and-assoc, and-true}
+use Rattle.flat.proofs.Joined.{joined-below, and-assoc, and-true}
 use borrow.Author.Needs.{needs}
 use Rattle.flat.proofs.input.block_flags.Statement.{statement}
 use Rattle.flat.proofs.input.block_flags.Tie as tie
@@ -15,7 +15,7 @@ joined-requires-3 : tie.Need-joined-requires-3
 joined-requires-3 c κs = search needs
 
 returns : tie.Need-returns
-returns c = simp (c .joined3 .ensures 1, c .before .joined2 .ensures 1, c .before .before .joined .ensures 1, and-assoc, and-true)
+returns c = simp (c .joined3 .ensures, c .before .joined2 .ensures, c .before .before .joined .ensures, joined-below 1, and-assoc, and-true)
 
 pub block-flags-spec : {M : Type 1} → statement M
 block-flags-spec = tie.close (tie.spec joined-requires joined-requires-2 joined-requires-3 returns)

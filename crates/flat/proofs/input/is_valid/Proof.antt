@@ -1,11 +1,13 @@
 -- `flat::input::is_valid` meets its contract: the flags that are joined are all flags, and the test picks the case.
 -- Assumes nothing.
-use mathlib.Core.Path.{_≡_, sym, _∙_}
+use Prim.Native.Nat.{ℕ}
+use mathlib.Core.Path.{_≡_, sym, ap, _∙_}
 use mathlib.Core.Bool.{true, false}
+use lib.Dec.{ltb}
 use borrow.Author.Tests.{lt-ltb, le-ltb}
 use Rattle.wire.specs.Flags.{and}
 use Rattle.flat.specs.Input.{flags, recordFlags, blockFlags, named, valid}
-use Rattle.flat.proofs.Joined.{and-assoc}
+use Rattle.flat.proofs.Joined.{joined-below, and-assoc}
 use borrow.Author.Needs.{needs}
 use Rattle.flat.proofs.input.is_valid.Statement.{statement}
 use Rattle.flat.proofs.input.is_valid.Tie as tie
@@ -26,14 +28,14 @@ returns : tie.Need-returns
 unfolding valid
 returns c =
     let r = c .before .before .before .before .before .before .args .c in
-    let e : and (flags (recordFlags r)) (flags (blockFlags (r .superframe))) ≡ true = simp (sym (c .before .before .before .before .record-flags .ensures), sym (c .before .before .before .block-flags .ensures)) (sym (c .before .before .joined .ensures 1) ∙ lt-ltb _ _ (c .before .if1 .taken)) in
+    let e : and (flags (recordFlags r)) (flags (blockFlags (r .superframe))) ≡ true = simp (sym (c .before .before .before .before .record-flags .ensures), sym (c .before .before .before .block-flags .ensures)) (sym (joined-below 1 (c .before .before .before .before .record-flags .result) (c .before .before .before .block-flags .result)) ∙ ap (λ (x : ℕ). ltb x 2) (sym (c .before .before .joined .ensures)) ∙ lt-ltb _ _ (c .before .if1 .taken)) in
     simp (c .is-named .ensures, sym (and-assoc (flags (recordFlags r)) (flags (blockFlags (r .superframe))) (named (r .«mode_is_reserved») (r .«s2xv2_mode»))), e)
 
 returns-2 : tie.Need-returns-2
 unfolding valid
 returns-2 c =
     let r = c .before .before .before .before .before .args .c in
-    let e : and (flags (recordFlags r)) (flags (blockFlags (r .superframe))) ≡ false = simp (sym (c .before .before .before .record-flags .ensures), sym (c .before .before .block-flags .ensures)) (sym (c .before .joined .ensures 1) ∙ le-ltb _ _ (c .if1 .left)) in
+    let e : and (flags (recordFlags r)) (flags (blockFlags (r .superframe))) ≡ false = simp (sym (c .before .before .before .record-flags .ensures), sym (c .before .before .block-flags .ensures)) (sym (joined-below 1 (c .before .before .before .record-flags .result) (c .before .before .block-flags .result)) ∙ ap (λ (x : ℕ). ltb x 2) (sym (c .before .joined .ensures)) ∙ le-ltb _ _ (c .if1 .left)) in
     simp (sym (and-assoc (flags (recordFlags r)) (flags (blockFlags (r .superframe))) (named (r .«mode_is_reserved») (r .«s2xv2_mode»))), e)
 
 pub is-valid-spec : {M : Type 1} → statement M

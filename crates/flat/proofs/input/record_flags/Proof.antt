@@ -1,6 +1,6 @@
 -- `flat::input::record_flags` meets its contract: joined flags are below 2 only if each is.
 -- Assumes nothing.
-use Rattle.flat.proofs.Joined.{and-assoc, and-true}
+use Rattle.flat.proofs.Joined.{joined-below, and-assoc, and-true}
 use borrow.Author.Needs.{needs}
 use Rattle.flat.proofs.input.record_flags.Statement.{statement}
 use Rattle.flat.proofs.input.record_flags.Tie as tie
@@ -33,7 +33,7 @@ joined-requires-9 : tie.Need-joined-requires-9
 joined-requires-9 c κs = search needs
 
 returns : tie.Need-returns
-returns c = simp (c .joined9 .ensures 1, c .before .joined8 .ensures 1, c .before .before .joined7 .ensures 1, c .before .before .before .joined6 .ensures 1, c .before .before .before .before .joined5 .ensures 1, c .before .before .before .before .before .joined4 .ensures 1, c .before .before .before .before .before .before .joined3 .ensures 1, c .before .before .before .before .before .before .before .joined2 .ensures 1, c .before .before .before .before .before .before .before .before .joined .ensures 1, and-assoc, and-true)
+returns c = simp (c .joined9 .ensures, c .before .joined8 .ensures, c .before .before .joined7 .ensures, c .before .before .before .joined6 .ensures, c .before .before .before .before .joined5 .ensures, c .before .before .before .before .before .joined4 .ensures, c .before .before .before .before .before .before .joined3 .ensures, c .before .before .before .before .before .before .before .joined2 .ensures, c .before .before .before .before .before .before .before .before .joined .ensures, joined-below 1, and-assoc, and-true)
 
 pub record-flags-spec : {M : Type 1} → statement M
 record-flags-spec =

@@ -1,8 +1,7 @@
 -- `measure::checks::core_fits` meets its contract: the tests that failed bound the numbers.
 -- Assumes nothing.
-use mathlib.Core.Path.{sym, _∙_}
-use borrow.Author.Tests.{ltb-true, lt-ltb}
-use Rattle.measure.proofs.Flags.{never, four-below}
+use borrow.Author.Tests.{ltb-true}
+use Rattle.measure.proofs.Flags.{never, four-joined}
 use borrow.Author.Needs.{needs}
 use Rattle.measure.proofs.checks.core_fits.Statement.{statement}
 use Rattle.measure.proofs.checks.core_fits.Tie as tie
@@ -36,9 +35,8 @@ returns-5 c = λ e. never e
 
 returns-6 : tie.Need-returns-6
 returns-6 c =
-    let t = rw (c .before .before .before .before .before .before .before .before .before .before .before .before .joined .ensures 2, c .before .before .before .before .before .before .before .before .before .before .before .joined2 .ensures 2) at (sym (c .before .before .before .before .before .before .before .before .before .joined3 .ensures 2) ∙ lt-ltb _ _ (c .before .before .before .before .before .before .before .before .if1 .left)) in
     let r = c .before .before .before .before .before .before .before .before .before .before .before .before .before .args .c in
-    let q = four-below 4 (r .«reserved_zero_future_use_2») (r .«channel_bond») (r .polarization) (r .«ts_gs_s2x_mode») t in
+    let q = four-joined (r .«reserved_zero_future_use_2») (r .«channel_bond») (r .polarization) (r .«ts_gs_s2x_mode») _ _ _ (c .before .before .before .before .before .before .before .before .before .before .before .before .joined .ensures) (c .before .before .before .before .before .before .before .before .before .before .before .joined2 .ensures) (c .before .before .before .before .before .before .before .before .before .joined3 .ensures) (c .before .before .before .before .before .before .before .before .if1 .left) in
     λ e. record {
       mode = c .before .before .before .before .before .before .if2 .left;
       roll = c .before .before .before .before .if3 .left;
