@@ -81,15 +81,8 @@ pub is-superframe : (b : Bool) (f : S2Xv2Superframe) → isSomeSuperframe (someS
 is-superframe true f = refl
 is-superframe false f = refl
 
-pub or-8 : (b : Bool) (v : ℕ) → orZero8 (some8If b v) ≡ when b v 0
-or-8 true v = refl
-or-8 false v = refl
-
-pub or-32 : (b : Bool) (v : ℕ) → orZero32 (some32If b v) ≡ when b v 0
-or-32 true v = refl
-or-32 false v = refl
-
 -- ---- a record that crosses out is one that a record could be
+
 flag : (b : Bool) → ltb (bit b) 2 ≡ true
 flag true = refl
 flag false = refl

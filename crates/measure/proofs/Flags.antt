@@ -46,10 +46,6 @@ both-bits (suc (suc n)) b h k = absurd (omega arith)
 both-bits zero (suc (suc n)) h k = absurd (omega arith)
 both-bits (suc zero) (suc (suc n)) h k = absurd (omega arith)
 
-pub bit-below : (b : Bool) → bit b < 2
-bit-below true = omega arith
-bit-below false = omega arith
-
 pub both-small : (a b : ℕ) → a < 2 → bitAnd a b < 2
 both-small a b h = omega (arith, and-le-l a b)
 
