@@ -10,16 +10,17 @@ use lib.ListN.{length}
 use lib.Dec.{ltb}
 use Rattle.wire.specs.Flags.{bit, isOne, when, and, not}
 use Rattle.s2xv2.specs.Answer.{saturated, told}
-use Rattle.s2xv2.specs.Read.{Need, needs, presentIn, bodySize, shortTold, readTold, superframeAt, recordAt, recordOf}
+use Rattle.s2xv2.specs.Read.{Need, needs, presentIn, bodySize, shortTold, readTold, superframeAt, hasSecond, hasPlan, recordAt}
 use Rattle.s2xv2.specs.declared.superframe.OptionSuperframe.the-variants as OS
-use Rattle.layout.specs.Layout.{asked, endsNow}
+use Rattle.layout.specs.Layout.{asked}
 use Rattle.layout.specs.declared.present.Present.{Present}
+use Rattle.layout.specs.declared.ends.Ends.{Ends}
 use Rattle.s2xv2.proofs.Back.{bit-of}
 use Rattle.s2xv2.proofs.Fields.{code-mode}
 use Rattle.flat.specs.Output.{answerOut, superframeOut, recordOut}
 use Rattle.flat.proofs.Back.{is-bool, is-selected, is-8, is-32, is-superframe}
 use Rattle.reader.specs.Seen.{answerIn}
-use Rattle.reader.specs.Flat.{flatBlockAt, flatRecordAt}
+use Rattle.reader.proofs.Numbers.{flatBlockAt, flatRecordAt}
 
 -- a bit that stands only where a flag is clear
 top-clear : (h : Bool) (x : ℕ) → bit (and (not h) (isOne (x % 2))) ≡ when h 0 (x % 2)
@@ -30,9 +31,10 @@ pub flat-block : (s : List ℕ) (p : ℕ) (plan : Bool) → flatBlockAt s p plan
 unfolding flatBlockAt superframeAt
 flat-block s p plan = simp (is-8, is-32)
 
-pub flat-record : (s : List ℕ) (k : Present) → flatRecordAt s k (endsNow s k) ≡ recordOut (recordOf s (asked k))
+pub flat-record : (s : List ℕ) (k : Present) (e : Ends) → e .second ≡ hasSecond s (e .timeslice) → e .plan ≡ hasPlan s (e .bond)
+    → flatRecordAt s k e ≡ recordOut (recordAt s (asked k) (e .stream) (e .scrambling) (e .timeslice) (e .bond))
 unfolding flatRecordAt recordAt
-flat-record s k = simp (code-mode, is-bool, is-selected, is-8, is-32, is-superframe, top-clear)
+flat-record s k e d p = simp (d, p, code-mode, is-bool, is-selected, is-8, is-32, is-superframe, top-clear)
 
 -- ---- the answer
 

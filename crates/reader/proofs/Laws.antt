@@ -1,6 +1,6 @@
 -- A body that reaches the last end has reached them all; and a part from q to the end is what is left behind q.
 -- Assumes nothing.
-use mathlib.Core.Path.{_≡_}
+use mathlib.Core.Path.{_≡_, refl}
 use mathlib.Core.List.{List}
 use mathlib.Core.Bool.{Bool, true, false}
 use Prim.Native.Nat.{ℕ, _-_, _≤_}
@@ -36,6 +36,8 @@ reached s k h =
       bond = omega arith;
       superframe = h;
       small = omega arith;
+      second = refl;
+      plan = refl;
     }
 
 pub rest : (q : ℕ) (s : List ℕ) → take (length s - q) (drop q s) ≡ drop q s

@@ -1,11 +1,13 @@
 -- What the reader's private functions give of the parts that have several fields, `scramblingAt` and `bondsAt`, each from what
--- `Rattle.s2xv2.specs.Read` says of the fields; and what they require of a body: it has `Reached` the ends of its parts. Assumes nothing.
+-- `Rattle.s2xv2.specs.Read` says of the fields; and what they require of a body: it has `Reached` the ends of its parts, which are
+-- as its bonds and its superframe block say. Assumes nothing.
 use Prim.Native.Nat.{ℕ, _+_, _≤_, _<_}
+use mathlib.Core.Path.{_≡_}
 use mathlib.Core.List.{List}
 use mathlib.Core.Bool.{Bool}
 use lib.ListN.{length}
 use Rattle.s2xv2.specs.Options.{orZero32}
-use Rattle.s2xv2.specs.Read.{only, bondSize, superframeSize, reserved6At, indexAt, reserved7At, countIf, firstIdAt, secondIdAt}
+use Rattle.s2xv2.specs.Read.{only, hasSecond, bondSize, hasPlan, superframeSize, reserved6At, indexAt, reserved7At, countIf, firstIdAt, secondIdAt}
 use Rattle.layout.specs.declared.present.Present.{Present}
 use Rattle.layout.specs.declared.ends.Ends.{Ends}
 use Rattle.reader.specs.declared.parts.Scrambling.{Scrambling}
@@ -30,3 +32,5 @@ pub record Reached (s : List ℕ) (k : Present) (e : Ends) : Type 0 where
   pub bond : e .timeslice + only (k .bond) (bondSize (e .second)) ≤ length s
   pub superframe : e .bond + only (k .superframe) (superframeSize (e .plan)) ≤ length s
   pub small : e .bond < 100
+  pub second : e .second ≡ hasSecond s (e .timeslice)
+  pub plan : e .plan ≡ hasPlan s (e .bond)

@@ -5,9 +5,10 @@ ghost use Prim.Native.Nat.{_+_, _≤_, _<_};
 ghost use lib.ListN.{length};
 ghost use Rattle.wire.specs.Flags.{when};
 ghost use Rattle.s2xv2.specs.Options.{orZero8, orZero32, some8If};
-ghost use Rattle.s2xv2.specs.Read.{only, bondSize, superframeSize, byteAt, planAt};
+ghost use Rattle.s2xv2.specs.Read.{only, bondSize, superframeSize, byteAt, planAt, superframeAt};
 ghost use Rattle.reader.specs.Parts.{scramblingAt, bondsAt};
-ghost use Rattle.reader.specs.Flat.{flatBlockAt};
+ghost use Rattle.flat.specs.Output.{superframeOut};
+ghost use Rattle.s2xv2.specs.declared.superframe.OptionSuperframe.the-variants as OS;
 use crate::bytes::be32;
 use crate::bytes::byte;
 use crate::bytes::low18;
@@ -122,7 +123,7 @@ fn last_at(p: usize, plan: bool) -> usize
 // The superframe block from `p` on.
 pub(crate) fn block_at(s: &[u8], p: usize, plan: bool) -> FlatSuperframe
     requires { ⌜ (p < 100) × (p + superframeSize plan ≤ length (now s)) ⌝ }
-    ensures { λ r. ⌜ r ≡ flatBlockAt (now (s .entry)) p plan ⌝ }
+    ensures { λ r. ⌜ r ≡ superframeOut (OS.Some (superframeAt (now (s .entry)) p plan)) ⌝ }
 {
     let end = byte(s, last_at(p, plan));
     let selectors = byte(s, p + 1);

@@ -1,10 +1,10 @@
 // The record that a body holds.
 ghost use mathlib.Core.Path.{_≡_};
 ghost use Rattle.s2xv2.specs.Options.{someSuperframeIf};
-ghost use Rattle.s2xv2.specs.Read.{superframeAt};
-ghost use Rattle.flat.specs.Output.{superframeOut};
+ghost use Rattle.s2xv2.specs.Read.{superframeAt, recordAt};
+ghost use Rattle.flat.specs.Output.{superframeOut, recordOut};
+ghost use Rattle.layout.specs.Layout.{asked};
 ghost use Rattle.reader.specs.Parts.{Reached};
-ghost use Rattle.reader.specs.Flat.{flatRecordAt};
 use crate::bytes::be24;
 use crate::bytes::be32;
 use crate::bytes::byte;
@@ -27,7 +27,7 @@ use wire::field::flag;
 fn record_of(s: &[u8], k: Present, e: Ends, superframe: FlatSuperframe) -> FlatRecord
     requires { ⌜ Reached (now s) k e ⌝ }
     requires { ⌜ superframe ≡ superframeOut (someSuperframeIf (k .superframe) (superframeAt (now s) (e .bond) (e .plan))) ⌝ }
-    ensures { λ r. ⌜ r ≡ flatRecordAt (now (s .entry)) k e ⌝ }
+    ensures { λ r. ⌜ r ≡ recordOut (recordAt (now (s .entry)) (asked k) (e .stream) (e .scrambling) (e .timeslice) (e .bond)) ⌝ }
 {
     let stream = byte_at(s, 18, k.stream);
     let scrambling = scrambling_at(s, e.stream, k.scrambling);
@@ -77,7 +77,7 @@ fn record_of(s: &[u8], k: Present, e: Ends, superframe: FlatSuperframe) -> FlatR
 // The record of a body that reaches the ends of its parts, as plain numbers.
 pub(crate) fn record_at(s: &[u8], k: Present, e: Ends) -> FlatRecord
     requires { ⌜ Reached (now s) k e ⌝ }
-    ensures { λ r. ⌜ r ≡ flatRecordAt (now (s .entry)) k e ⌝ }
+    ensures { λ r. ⌜ r ≡ recordOut (recordAt (now (s .entry)) (asked k) (e .stream) (e .scrambling) (e .timeslice) (e .bond)) ⌝ }
 {
     if k.superframe {
         return record_of(s, k, e, block_at(s, e.bond, e.plan));

@@ -1,15 +1,14 @@
 -- `reader::parse_flat` meets its contract: the laws of the answer say what a body reads as that is too long, too short, or neither.
 -- Assumes nothing.
-use mathlib.Core.Path.{sym, ap, _∙_}
+use mathlib.Core.Path.{_≡_, sym, ap, _∙_}
 use lib.ListN.{length}
 use denote.Ref.{now}
-use Rattle.s2xv2.specs.Read.{bodySize}
+use Rattle.s2xv2.specs.Answer.{told}
+use Rattle.s2xv2.specs.Read.{bodySize, readTold}
 use Rattle.s2xv2.specs.declared.answer.Refusal.the-variants.{Short, Long}
 use Rattle.s2xv2.proofs.Reach.{told-long, told-core, told-within, reads-accepted, reads-refused, reads-short}
-use Rattle.layout.specs.Layout.{presentNow}
 use Rattle.reader.specs.Seen.{flatSeen}
 use Rattle.reader.proofs.Laws.{reached}
-use Rattle.reader.proofs.Flat.{flat-record}
 use borrow.Author.Needs.{needs}
 use Rattle.reader.proofs.parse_flat.Statement.{statement}
 use Rattle.reader.proofs.parse_flat.Tie as tie
@@ -51,7 +50,8 @@ returns-3 c =
     let s = now (c .before .before .before .before .before .before .before .before .args .sel) in
     let e = simp (c .before .before .before .ends-of .ensures, c .before .before .before .before .present-in .ensures) at (c .before .missing .ensures) in
     let h = rw (c .before .before .before .ends-of .ensures, c .before .before .before .before .present-in .ensures) at (c .before .before .if3 .taken) in
-    c .refused3 .ensures ∙ simp (e ∙ sym (told-within s (c .before .before .before .before .before .before .if1 .left))) (sym (ap flatSeen (reads-short s h)))
+    let d : told (c .before .missing .result) ≡ readTold s = e ∙ sym (told-within s (c .before .before .before .before .before .before .if1 .left)) in
+    c .refused3 .ensures ∙ simp d (sym (ap flatSeen (reads-short s h)))
 
 answer-of-requires : tie.Need-answer-of-requires
 answer-of-requires c κs = search needs
@@ -67,7 +67,7 @@ unfolding bodySize
 returns-4 c =
     let s = now (c .before .before .before .before .before .before .before .before .args .sel) in
     let h = rw (c .before .before .before .ends-of .ensures, c .before .before .before .before .present-in .ensures) at (c .before .before .if3 .left) in
-    simp (c .record-at .ensures, c .before .answer-of .ensures, c .before .before .before .ends-of .ensures, c .before .before .before .before .present-in .ensures, flat-record s (presentNow s)) (sym (ap flatSeen (reads-accepted s h (c .before .before .before .before .before .before .if1 .left))))
+    simp (c .record-at .ensures, c .before .answer-of .ensures, c .before .before .before .ends-of .ensures, c .before .before .before .before .present-in .ensures) (sym (ap flatSeen (reads-accepted s h (c .before .before .before .before .before .before .if1 .left))))
 
 pub parse-flat-spec : {M : Type 1} → statement M
 parse-flat-spec =

@@ -1,6 +1,8 @@
 -- `reader::parts::block_at` meets its contract: each call gives the field that the definition cuts there.
 -- Assumes nothing.
-use Rattle.reader.specs.Flat.{flatBlockAt}
+use denote.Ref.{now}
+use Rattle.reader.proofs.Numbers.{flatBlockAt}
+use Rattle.reader.proofs.Flat.{flat-block}
 use borrow.Author.Needs.{needs}
 use Rattle.reader.proofs.parts.block_at.Statement.{statement}
 use Rattle.reader.proofs.parts.block_at.Tie as tie
@@ -102,6 +104,7 @@ returns c =
       c .before .before .before .before .before .before .before .before .before .before .before .before .before .before .before .before .before .before .byte .ensures .0,
       c .before .before .before .before .before .before .before .before .before .before .before .before .before .before .before .before .before .before .before .last-at .ensures .0,
     )
+    (flat-block (now (c .before .before .before .before .before .before .before .before .before .before .before .before .before .before .before .before .before .before .before .before .before .args .s)) (c .before .before .before .before .before .before .before .before .before .before .before .before .before .before .before .before .before .before .before .before .before .args .p) (c .before .before .before .before .before .before .before .before .before .before .before .before .before .before .before .before .before .before .before .before .before .args .plan))
 
 pub block-at-spec : {M : Type 1} → statement M
 block-at-spec =

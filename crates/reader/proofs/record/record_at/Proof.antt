@@ -1,6 +1,5 @@
 -- `reader::record::record_at` meets its contract: the test says which block it is.
 -- Assumes nothing.
-use Rattle.reader.proofs.Flat.{flat-block}
 use borrow.Author.Needs.{needs}
 use Rattle.reader.proofs.record.record_at.Statement.{statement}
 use Rattle.reader.proofs.record.record_at.Tie as tie
@@ -9,7 +8,7 @@ block-at-requires : tie.Need-block-at-requires
 block-at-requires c κs = (c .before .before .pre .small, rw (c .if1 .taken) at (c .before .before .pre .superframe))
 
 record-of-requires : tie.Need-record-of-requires
-record-of-requires c κs = (c .before .before .before .pre, simp (c .before .if1 .taken, c .block-at .ensures, flat-block))
+record-of-requires c κs = (c .before .before .before .pre, simp (c .before .if1 .taken, c .block-at .ensures))
 
 returns : tie.Need-returns
 returns c = search needs

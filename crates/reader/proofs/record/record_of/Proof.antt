@@ -1,7 +1,9 @@
 -- `reader::record::record_of` meets its contract: each call gives the field that the definition cuts there.
 -- Assumes nothing.
 use native.Mathlib.Omega.{arith}
-use Rattle.reader.specs.Flat.{flatRecordAt}
+use denote.Ref.{now}
+use Rattle.reader.proofs.Numbers.{flatRecordAt}
+use Rattle.reader.proofs.Flat.{flat-record}
 use borrow.Author.Needs.{needs}
 use Rattle.reader.proofs.record.record_of.Statement.{statement}
 use Rattle.reader.proofs.record.record_of.Tie as tie
@@ -152,6 +154,7 @@ returns c =
       c .before .before .before .before .before .before .before .before .before .before .before .before .before .before .before .before .before .before .before .before .before .before .before .before .before .before .before .before .before .before .before .before .before .before .byte-at .ensures,
       c .before .before .before .before .before .before .before .before .before .before .before .before .before .before .before .before .before .before .before .before .before .before .before .before .before .before .before .before .before .before .before .before .before .before .before .before .pre .1,
     )
+    (flat-record (now (c .before .before .before .before .before .before .before .before .before .before .before .before .before .before .before .before .before .before .before .before .before .before .before .before .before .before .before .before .before .before .before .before .before .before .before .before .args .s)) (c .before .before .before .before .before .before .before .before .before .before .before .before .before .before .before .before .before .before .before .before .before .before .before .before .before .before .before .before .before .before .before .before .before .before .before .before .args .k) (c .before .before .before .before .before .before .before .before .before .before .before .before .before .before .before .before .before .before .before .before .before .before .before .before .before .before .before .before .before .before .before .before .before .before .before .before .args .e) (c .before .before .before .before .before .before .before .before .before .before .before .before .before .before .before .before .before .before .before .before .before .before .before .before .before .before .before .before .before .before .before .before .before .before .before .before .pre .0 .second) (c .before .before .before .before .before .before .before .before .before .before .before .before .before .before .before .before .before .before .before .before .before .before .before .before .before .before .before .before .before .before .before .before .before .before .before .before .pre .0 .plan))
 
 pub record-of-spec : {M : Type 1} → statement M
 record-of-spec =

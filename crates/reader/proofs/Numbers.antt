@@ -1,5 +1,6 @@
--- What a body holds, as the plain numbers that the code gives: `flatBlockAt` a superframe block, `flatRecordAt` the record. `proofs/Flat.antt` shows that they are what crosses of
--- `superframeAt` and `recordOf`; no public contract cites them. Assumes nothing.
+-- What a body holds, as the plain numbers that the code gives: `flatBlockAt` a superframe block, `flatRecordAt` the record. `Flat.antt` shows that they are what crosses of
+-- `superframeAt` and `recordAt`.
+-- Assumes nothing.
 use Prim.Native.Nat.{ℕ, _+_}
 use mathlib.Core.List.{List, [], _∷_, _++_}
 use mathlib.Core.Bool.{Bool}
