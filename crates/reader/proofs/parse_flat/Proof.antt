@@ -1,10 +1,11 @@
 -- `reader::parse_flat` meets its contract: the laws of the answer say what a body reads as that is too long, too short, or neither.
 -- Assumes nothing.
 use mathlib.Core.Path.{_≡_, sym, ap, _∙_}
+use mathlib.Core.List.{[], _∷_}
 use lib.ListN.{length}
 use denote.Ref.{now}
 use Rattle.s2xv2.specs.Answer.{told}
-use Rattle.s2xv2.specs.Read.{bodySize, readTold}
+use Rattle.s2xv2.specs.Read.{presentIn, bodySize, needs as parts, shortTold, readTold}
 use Rattle.s2xv2.specs.declared.answer.Refusal.the-variants.{Short, Long}
 use Rattle.s2xv2.proofs.Reach.{told-long, told-core, told-within, reads-accepted, reads-refused, reads-short}
 use Rattle.reader.specs.Seen.{flatSeen}
@@ -50,7 +51,7 @@ returns-3 c =
     let s = now (c .before .before .before .before .before .before .before .before .args .sel) in
     let e = simp (c .before .before .before .ends-of .ensures, c .before .before .before .before .present-in .ensures) at (c .before .missing .ensures) in
     let h = rw (c .before .before .before .ends-of .ensures, c .before .before .before .before .present-in .ensures) at (c .before .before .if3 .taken) in
-    let d : told (c .before .missing .result) ≡ readTold s = e ∙ sym (told-within s (c .before .before .before .before .before .before .if1 .left)) in
+    let d : told (c .before .missing .result) ≡ readTold s = _∙_ {b = shortTold (length s) (parts s (presentIn s)) (0 ∷ bodySize s ∷ [])} e (sym (told-within s (c .before .before .before .before .before .before .if1 .left))) in
     c .refused3 .ensures ∙ simp d (sym (ap flatSeen (reads-short s h)))
 
 answer-of-requires : tie.Need-answer-of-requires
