@@ -46,14 +46,6 @@ fn judged_len(c: FlatRecord, tail: &[u8]) -> Answer
     Answer::Accepted(need)
 }
 
-// The number of bytes that the record takes with a tail. Refuses a record that contradicts itself, and one whose encoding would
-// have more than 4,096 bytes; it does not ask whether the wire can carry the record's values.
-pub fn serialized_len(r: S2Xv2SatelliteDeliverySystem, reserved_tail: &[u8]) -> Answer
-    ensures { λ a. ⌜ told a ≡ lengthTold r (now («reserved_tail» .entry)) ⌝ }
-{
-    judged_len(record_out(r), reserved_tail)
-}
-
 // `write_answer` of a record as numbers, with what it refuses.
 fn judged(c: FlatRecord, tail: &[u8], room: usize) -> Answer
     requires { ⌜ Flagged c ⌝ }
@@ -73,14 +65,6 @@ fn judged(c: FlatRecord, tail: &[u8], room: usize) -> Answer
     Answer::Accepted(need)
 }
 
-// What the writer answers for the record, its tail and a buffer of `room` bytes. Refuses what `serialized_len` refuses, then a
-// buffer that is too small, then a record whose values the wire cannot carry.
-pub fn write_answer(r: S2Xv2SatelliteDeliverySystem, reserved_tail: &[u8], room: usize) -> Answer
-    ensures { λ a. ⌜ told a ≡ writeTold r (now («reserved_tail» .entry)) room ⌝ }
-{
-    judged(record_out(r), reserved_tail, room)
-}
-
 // The number of bytes that a record takes with a tail if nothing is refused and that is at most `room`; or 0, where one of the tests has to say why.
 fn ready_len(c: FlatRecord, tail: &[u8], room: usize) -> usize
     requires { ⌜ Flagged c ⌝ }
@@ -97,6 +81,34 @@ fn ready_len(c: FlatRecord, tail: &[u8], room: usize) -> usize
         }
     } else {
         0
+    }
+}
+
+// The number of bytes that the record takes with a tail. Refuses a record that contradicts itself, and one whose encoding would
+// have more than 4,096 bytes; it does not ask whether the wire can carry the record's values.
+pub fn serialized_len(r: S2Xv2SatelliteDeliverySystem, reserved_tail: &[u8]) -> Answer
+    ensures { λ a. ⌜ told a ≡ lengthTold r (now («reserved_tail» .entry)) ⌝ }
+{
+    let c = record_out(r);
+    let need = ready_len(c, reserved_tail, 4096);
+    if need == 0 {
+        judged_len(c, reserved_tail)
+    } else {
+        Answer::Accepted(need)
+    }
+}
+
+// What the writer answers for the record, its tail and a buffer of `room` bytes. Refuses what `serialized_len` refuses, then a
+// buffer that is too small, then a record whose values the wire cannot carry.
+pub fn write_answer(r: S2Xv2SatelliteDeliverySystem, reserved_tail: &[u8], room: usize) -> Answer
+    ensures { λ a. ⌜ told a ≡ writeTold r (now («reserved_tail» .entry)) room ⌝ }
+{
+    let c = record_out(r);
+    let need = ready_len(c, reserved_tail, room);
+    if need == 0 {
+        judged(c, reserved_tail, room)
+    } else {
+        Answer::Accepted(need)
     }
 }
 
