@@ -3,6 +3,7 @@ ghost use mathlib.Core.Path.{_≡_};
 ghost use lib.Dec.{ltb};
 ghost use Rattle.wire.specs.Flags.{when, isOne, and};
 ghost use Rattle.s2xv2.specs.Options.{someBoolIf, some8If, some32If, someSuperframeIf};
+ghost use Rattle.flat.specs.Core.{coreOf};
 ghost use Rattle.flat.specs.Input.{modeIn, blockIn, recordIn, blockFlags, recordFlags, flags, named, valid, joinedOf};
 use crate::types::FlatRecord;
 use crate::types::FlatSuperframe;
@@ -98,12 +99,10 @@ fn superframe_in(has: u8, f: FlatSuperframe) -> OptionSuperframe
     }
 }
 
-// The record that is meant.
-pub fn record_in(c: FlatRecord) -> S2Xv2SatelliteDeliverySystem
-    ensures { λ r. ⌜ r ≡ recordIn c ⌝ }
+// The core of the record that is meant, and nothing else of it.
+fn core_in(c: FlatRecord) -> S2Xv2SatelliteDeliverySystem
+    ensures { λ r. ⌜ r ≡ coreOf (recordIn c) ⌝ }
 {
-    let block = c.superframe;
-    let ids = c.secondary_delivery_system_ids;
     S2Xv2SatelliteDeliverySystem {
         delivery_system_id: c.delivery_system_id,
         s2xv2_mode: mode_in(c.mode_is_reserved, c.s2xv2_mode),
@@ -124,6 +123,17 @@ pub fn record_in(c: FlatRecord) -> S2Xv2SatelliteDeliverySystem
         satellite_id: c.satellite_id,
         frequency: c.frequency,
         symbol_rate: c.symbol_rate,
+        ..S2Xv2SatelliteDeliverySystem::default()
+    }
+}
+
+// The record that is meant.
+pub fn record_in(c: FlatRecord) -> S2Xv2SatelliteDeliverySystem
+    ensures { λ r. ⌜ r ≡ recordIn c ⌝ }
+{
+    let block = c.superframe;
+    let ids = c.secondary_delivery_system_ids;
+    S2Xv2SatelliteDeliverySystem {
         input_stream_identifier: u8_in(c.has_input_stream_identifier, c.input_stream_identifier),
         reserved_zero_future_use_6: c.reserved_zero_future_use_6,
         scrambling_sequence_index: u32_in(
@@ -135,6 +145,7 @@ pub fn record_in(c: FlatRecord) -> S2Xv2SatelliteDeliverySystem
         secondary_delivery_system_ids: ids,
         num_channel_bonds: c.num_channel_bonds,
         superframe: superframe_in(c.has_superframe, block),
+        ..core_in(c)
     }
 }
 

@@ -3,11 +3,14 @@ ghost use mathlib.Core.Path.{_≡_};
 ghost use Rattle.wire.specs.Flags.{bit};
 ghost use Rattle.s2xv2.specs.Options.{isSomeBool, isSome8, isSome32, isSomeSuperframe};
 ghost use Rattle.s2xv2.specs.Answer.{numbers, told};
+ghost use Rattle.flat.specs.Core.{coreOf};
 ghost use Rattle.flat.specs.Input.{foreign};
 ghost use Rattle.flat.specs.Output.{answerOut, isReserved, superframeOut, recordOut};
 use crate::types::FlatAnswer;
 use crate::types::FlatRecord;
 use crate::types::FlatSuperframe;
+use crate::types::NO_BLOCK;
+use crate::types::NOTHING;
 use s2xv2::answer::Answer;
 use s2xv2::answer::Refusal;
 use s2xv2::mode::S2Xv2Mode;
@@ -135,57 +138,27 @@ fn block_out(f: S2Xv2Superframe) -> FlatSuperframe
     }
 }
 
-// What crosses for a block that is not there.
-pub fn no_block() -> FlatSuperframe
-    ensures { λ r. ⌜ r ≡ superframeOut OptionSuperframe.None ⌝ }
-{
-    FlatSuperframe {
-        reference_scrambling_index: 0,
-        payload_scrambling_index: 0,
-        beamhopping_time_plan_id: 0,
-        sosf_wh_sequence_number: 0,
-        sffi_selector: 0,
-        beam_hopping_time_plan_selector: 0,
-        reserved_zero_future_use_2: 0,
-        has_sffi: 0,
-        sffi: 0,
-        reserved_zero_future_use_4: 0,
-        has_beamhopping_time_plan_id: 0,
-        superframe_pilots_wh_sequence_number: 0,
-        postamble_pli: 0,
-    }
-}
-
 // A block, or zeros in its place.
 fn superframe_out(superframe: OptionSuperframe) -> FlatSuperframe
     ensures { λ r. ⌜ r ≡ superframeOut superframe ⌝ }
 {
     match superframe {
         OptionSuperframe::Some(f) => block_out(f),
-        OptionSuperframe::None => no_block(),
+        OptionSuperframe::None => NO_BLOCK,
     }
 }
 
-// The record, with a flag beside each number that may be absent.
-pub fn record_out(r: S2Xv2SatelliteDeliverySystem) -> FlatRecord
-    ensures { λ c. ⌜ c ≡ recordOut r ⌝ }
+// The core of a record, and nothing else of it.
+fn core_out(r: S2Xv2SatelliteDeliverySystem) -> FlatRecord
+    ensures { λ c. ⌜ c ≡ recordOut (coreOf r) ⌝ }
 {
     let mode = r.s2xv2_mode;
     let selector = r.scrambling_sequence_selector;
-    let stream = r.input_stream_identifier;
-    let index = r.scrambling_sequence_index;
-    let timeslice = r.timeslice_number;
-    let ids = r.secondary_delivery_system_ids;
-    let block = r.superframe;
-    let superframe = superframe_out(block);
     FlatRecord {
         delivery_system_id: r.delivery_system_id,
         satellite_id: r.satellite_id,
         frequency: r.frequency,
         symbol_rate: r.symbol_rate,
-        scrambling_sequence_index: index.or_zero(),
-        secondary_delivery_system_ids: ids,
-        superframe,
         mode_is_reserved: is_reserved(mode),
         s2xv2_mode: mode.to_u8(),
         multiple_input_stream_flag: bit_of(r.multiple_input_stream_flag),
@@ -200,6 +173,23 @@ pub fn record_out(r: S2Xv2SatelliteDeliverySystem) -> FlatRecord
         reserved_zero_future_use_1: r.reserved_zero_future_use_1,
         ts_gs_s2x_mode: r.ts_gs_s2x_mode,
         receiver_profiles: r.receiver_profiles,
+        ..NOTHING
+    }
+}
+
+// The record, with a flag beside each number that may be absent.
+pub fn record_out(r: S2Xv2SatelliteDeliverySystem) -> FlatRecord
+    ensures { λ c. ⌜ c ≡ recordOut r ⌝ }
+{
+    let stream = r.input_stream_identifier;
+    let index = r.scrambling_sequence_index;
+    let timeslice = r.timeslice_number;
+    let ids = r.secondary_delivery_system_ids;
+    let superframe = r.superframe;
+    FlatRecord {
+        scrambling_sequence_index: index.or_zero(),
+        secondary_delivery_system_ids: ids,
+        superframe: superframe_out(superframe),
         has_input_stream_identifier: has_u8(stream),
         input_stream_identifier: stream.or_zero(),
         reserved_zero_future_use_6: r.reserved_zero_future_use_6,
@@ -208,7 +198,8 @@ pub fn record_out(r: S2Xv2SatelliteDeliverySystem) -> FlatRecord
         timeslice_number: timeslice.or_zero(),
         reserved_zero_future_use_7: r.reserved_zero_future_use_7,
         num_channel_bonds: r.num_channel_bonds,
-        has_superframe: has_superframe(block),
+        has_superframe: has_superframe(superframe),
+        ..core_out(r)
     }
 }
 

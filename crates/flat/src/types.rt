@@ -27,6 +27,23 @@ pub struct FlatSuperframe {
     pub postamble_pli: u8,
 }
 
+// What crosses for a block that is not there.
+pub const NO_BLOCK: FlatSuperframe = FlatSuperframe {
+    reference_scrambling_index: 0,
+    payload_scrambling_index: 0,
+    beamhopping_time_plan_id: 0,
+    sosf_wh_sequence_number: 0,
+    sffi_selector: 0,
+    beam_hopping_time_plan_selector: 0,
+    reserved_zero_future_use_2: 0,
+    has_sffi: 0,
+    sffi: 0,
+    reserved_zero_future_use_4: 0,
+    has_beamhopping_time_plan_id: 0,
+    superframe_pilots_wh_sequence_number: 0,
+    postamble_pli: 0,
+};
+
 // A record. `mode_is_reserved` tells `Reserved(v)` from the modes that have a name; `s2xv2_mode` is the code in either case.
 #[repr(C)]
 pub struct FlatRecord {
@@ -61,6 +78,40 @@ pub struct FlatRecord {
     pub num_channel_bonds: u8,
     pub has_superframe: u8,
 }
+
+// The record that has 0 everywhere, and none of what may be absent.
+pub const NOTHING: FlatRecord = FlatRecord {
+    delivery_system_id: 0,
+    satellite_id: 0,
+    frequency: 0,
+    symbol_rate: 0,
+    scrambling_sequence_index: 0,
+    secondary_delivery_system_ids: [0, 0],
+    superframe: NO_BLOCK,
+    mode_is_reserved: 0,
+    s2xv2_mode: 0,
+    multiple_input_stream_flag: 0,
+    roll_off: 0,
+    reserved_zero_future_use_2: 0,
+    ncr_reference: 0,
+    ncr_version: 0,
+    channel_bond: 0,
+    polarization: 0,
+    has_scrambling_sequence_selector: 0,
+    scrambling_sequence_selector: 0,
+    reserved_zero_future_use_1: 0,
+    ts_gs_s2x_mode: 0,
+    receiver_profiles: 0,
+    has_input_stream_identifier: 0,
+    input_stream_identifier: 0,
+    reserved_zero_future_use_6: 0,
+    has_scrambling_sequence_index: 0,
+    has_timeslice_number: 0,
+    timeslice_number: 0,
+    reserved_zero_future_use_7: 0,
+    num_channel_bonds: 0,
+    has_superframe: 0,
+};
 
 // A body read: the answer, whose first number is where the tail starts if it is accepted, and the record.
 #[repr(C)]

@@ -1,4 +1,4 @@
--- What the code gives is what crosses: of the superframe block (`flat-block`), and of the record (`flat-record`); and the numbers of a reading mean its answer (`told-in`).
+-- What the code gives is what crosses: of the superframe block (`flat-block`), of the core (`flat-core`), and of the record (`flat-record`); and the numbers of a reading mean its answer (`told-in`).
 -- Assumes nothing.
 use mathlib.Core.Path.{_≡_, refl, sym, ap, _∙_}
 use mathlib.Core.Bool.{Bool, true, false}
@@ -9,32 +9,42 @@ use borrow.Author.Tests.{ltb-false}
 use lib.ListN.{length}
 use lib.Dec.{ltb}
 use Rattle.wire.specs.Flags.{bit, isOne, when, and, not}
+use Rattle.s2xv2.specs.Default.{defaultRecord}
 use Rattle.s2xv2.specs.Answer.{saturated, told}
-use Rattle.s2xv2.specs.Read.{Need, needs, presentIn, bodySize, shortTold, readTold, superframeAt, hasSecond, hasPlan, recordAt}
+use Rattle.s2xv2.specs.Read.{Need, needs, presentIn, bodySize, shortTold, readTold, superframeAt, hasSecond, hasPlan, recordAt, recordIn}
 use Rattle.s2xv2.specs.declared.superframe.OptionSuperframe.the-variants as OS
 use Rattle.layout.specs.Layout.{asked}
 use Rattle.layout.specs.declared.present.Present.{Present}
 use Rattle.layout.specs.declared.ends.Ends.{Ends}
 use Rattle.s2xv2.proofs.Back.{bit-of}
 use Rattle.s2xv2.proofs.Fields.{code-mode}
+use Rattle.flat.specs.Core.{coreOf}
 use Rattle.flat.specs.Output.{answerOut, superframeOut, recordOut}
 use Rattle.flat.proofs.Back.{is-bool, is-selected, is-8, is-32, is-superframe}
 use Rattle.reader.specs.Seen.{answerIn}
-use Rattle.reader.proofs.Numbers.{flatBlockAt, flatRecordAt}
+use Rattle.reader.proofs.Numbers.{flatBlockAt, flatCoreAt, flatRecordAt}
+
+-- a bit is itself, taken for a flag
+bit-mod : (x : ℕ) → bit (isOne (x % 2)) ≡ x % 2
+bit-mod x = bit-of (x % 2) (omega arith)
 
 -- a bit that stands only where a flag is clear
 top-clear : (h : Bool) (x : ℕ) → bit (and (not h) (isOne (x % 2))) ≡ when h 0 (x % 2)
 top-clear true x = refl
-top-clear false x = bit-of (x % 2) (omega arith)
+top-clear false x = bit-mod x
 
 pub flat-block : (s : List ℕ) (p : ℕ) (plan : Bool) → flatBlockAt s p plan ≡ superframeOut (OS.Some (superframeAt s p plan))
 unfolding flatBlockAt superframeAt
 flat-block s p plan = simp (is-8, is-32)
 
+pub flat-core : (s : List ℕ) → flatCoreAt s ≡ recordOut (coreOf (recordIn s))
+unfolding flatCoreAt recordAt defaultRecord
+flat-core s = simp (code-mode, is-bool, is-selected, bit-mod, top-clear)
+
 pub flat-record : (s : List ℕ) (k : Present) (e : Ends) → e .second ≡ hasSecond s (e .timeslice) → e .plan ≡ hasPlan s (e .bond)
-    → flatRecordAt s k e ≡ recordOut (recordAt s (asked k) (e .stream) (e .scrambling) (e .timeslice) (e .bond))
+    → flatRecordAt (recordOut (coreOf (recordIn s))) s k e ≡ recordOut (recordAt s (asked k) (e .stream) (e .scrambling) (e .timeslice) (e .bond))
 unfolding flatRecordAt recordAt
-flat-record s k e d p = simp (d, p, code-mode, is-bool, is-selected, is-8, is-32, is-superframe, top-clear)
+flat-record s k e d p = simp (d, p, is-8, is-32, is-superframe)
 
 -- ---- the answer
 

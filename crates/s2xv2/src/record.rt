@@ -58,36 +58,39 @@ pub struct S2Xv2SatelliteDeliverySystem {
     pub superframe: OptionSuperframe,
 }
 
+// Mode 0, and all else 0, clear or absent.
+const DEFAULT: S2Xv2SatelliteDeliverySystem = S2Xv2SatelliteDeliverySystem {
+    delivery_system_id: 0,
+    s2xv2_mode: S2Xv2Mode::Reserved0,
+    multiple_input_stream_flag: false,
+    roll_off: 0,
+    reserved_zero_future_use_2: 0,
+    ncr_reference: false,
+    ncr_version: false,
+    channel_bond: 0,
+    polarization: 0,
+    scrambling_sequence_selector: OptionBool::None,
+    reserved_zero_future_use_1: 0,
+    ts_gs_s2x_mode: 0,
+    receiver_profiles: 0,
+    satellite_id: 0,
+    frequency: 0,
+    symbol_rate: 0,
+    input_stream_identifier: OptionU8::None,
+    reserved_zero_future_use_6: 0,
+    scrambling_sequence_index: OptionU32::None,
+    timeslice_number: OptionU8::None,
+    reserved_zero_future_use_7: 0,
+    secondary_delivery_system_ids: [0, 0],
+    num_channel_bonds: 0,
+    superframe: OptionSuperframe::None,
+};
+
 impl S2Xv2SatelliteDeliverySystem {
-    // Mode 0, and all else 0, clear or absent.
+    // The crate's `Default`.
     pub fn default() -> S2Xv2SatelliteDeliverySystem
         ensures { λ r. ⌜ r ≡ defaultRecord ⌝ }
     {
-        S2Xv2SatelliteDeliverySystem {
-            delivery_system_id: 0,
-            s2xv2_mode: S2Xv2Mode::Reserved0,
-            multiple_input_stream_flag: false,
-            roll_off: 0,
-            reserved_zero_future_use_2: 0,
-            ncr_reference: false,
-            ncr_version: false,
-            channel_bond: 0,
-            polarization: 0,
-            scrambling_sequence_selector: OptionBool::None,
-            reserved_zero_future_use_1: 0,
-            ts_gs_s2x_mode: 0,
-            receiver_profiles: 0,
-            satellite_id: 0,
-            frequency: 0,
-            symbol_rate: 0,
-            input_stream_identifier: OptionU8::None,
-            reserved_zero_future_use_6: 0,
-            scrambling_sequence_index: OptionU32::None,
-            timeslice_number: OptionU8::None,
-            reserved_zero_future_use_7: 0,
-            secondary_delivery_system_ids: [0, 0],
-            num_channel_bonds: 0,
-            superframe: OptionSuperframe::None,
-        }
+        DEFAULT
     }
 }

@@ -3,6 +3,7 @@
 use borrow.Author.Needs.{needs}
 use Rattle.flat.proofs.output.superframe_out.Statement.{statement}
 use Rattle.flat.proofs.output.superframe_out.Tie as tie
+use Rattle.flat.proofs.output.block_out.Reads as block-out-reads
 
 enum-known-superframe : tie.Need-enum-known-superframe
 enum-known-superframe c = search needs
@@ -13,30 +14,12 @@ block-out-requires c κs = search needs
 enum-told : tie.Need-enum-told
 enum-told c = search needs
 
-no-block-requires : tie.Need-no-block-requires
-no-block-requires c κs = search needs
-
 returns : tie.Need-returns
-returns c =
-    simp (
-      c .block-out .ensures,
-      c .before .before .superframe .given .1,
-    )
+returns c = simp (c .block-out .ensures, c .before .before .superframe .given .1)
 
 returns-2 : tie.Need-returns-2
-returns-2 c =
-    simp (
-      c .no-block .ensures,
-      c .before .enum-told .given .1,
-    )
+returns-2 c = simp (c .enum-told .given .1)
 
 pub superframe-out-spec : {M : Type 1} → statement M
 superframe-out-spec =
-    tie.close
-    (tie.spec
-    enum-known-superframe
-    block-out-requires
-    enum-told
-    no-block-requires
-    returns
-    returns-2)
+    tie.close (tie.spec enum-known-superframe block-out-requires enum-told returns returns-2)

@@ -13,11 +13,8 @@ record-of-requires c κs = (c .before .before .before .pre, simp (c .before .if1
 returns : tie.Need-returns
 returns c = search needs
 
-no-block-requires : tie.Need-no-block-requires
-no-block-requires c κs = search needs
-
 record-of-requires-2 : tie.Need-record-of-requires-2
-record-of-requires-2 c κs = (c .before .before .before .pre, simp (c .before .if1 .left, c .no-block .ensures))
+record-of-requires-2 c κs = (c .before .before .pre, simp (c .if1 .left))
 
 returns-2 : tie.Need-returns-2
 returns-2 c = search needs
@@ -29,6 +26,5 @@ record-at-spec =
     block-at-requires
     record-of-requires
     returns
-    no-block-requires
     record-of-requires-2
     returns-2)
