@@ -87,7 +87,7 @@ flag : (b : Bool) → ltb (bit b) 2 ≡ true
 flag true = refl
 flag false = refl
 
-reserved-flag : (m : S2Xv2Mode) → ltb (isReserved m) 2 ≡ true
+pub reserved-flag : (m : S2Xv2Mode) → ltb (isReserved m) 2 ≡ true
 reserved-flag M.Reserved0 = refl
 reserved-flag M.S2X = refl
 reserved-flag M.S2XTimeSlicing = refl

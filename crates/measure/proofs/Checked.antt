@@ -5,7 +5,7 @@ use mathlib.Core.Bool.{Bool, true, false}
 use Prim.Native.Nat.{ℕ, zero, suc, _+_, _*_, _<_, _≤_}
 use native.Mathlib.Omega.{arith}
 use lib.Dec.{eqb, ltb}
-use borrow.Author.Tests.{le-ltb, lt-leb, eqb-true, eqb-false, ne-eqb}
+use borrow.Author.Tests.{lt-leb, ltb-true, eqb-true, eqb-false}
 use Rattle.wire.specs.Flags.{when, bit, isOne, and, not, differ}
 use Rattle.s2xv2.specs.Table144c.{modeOf, codeOf, hasSelector, hasTimeslice, hasSuperframe}
 use Rattle.s2xv2.specs.Options.{isSomeBool, isSome32, selected, orZero32, someBoolIf, some8If, some32If, someSuperframeIf}
@@ -13,10 +13,12 @@ use Rattle.s2xv2.specs.Encode.{lessOne, nibbleOf}
 use Rattle.s2xv2.specs.ListA.{misnamed, superframeA, listA}
 use Rattle.s2xv2.specs.ListB.{wide, superframeB, listB}
 use Rattle.s2xv2.proofs.Lists.{Clear}
-use Rattle.s2xv2.proofs.Fields.{code-mode}
+use Rattle.s2xv2.proofs.Modes.{by-code, code-mode, mode-named}
+use Rattle.s2xv2.specs.declared.mode.S2Xv2Mode.{S2Xv2Mode}
 use Rattle.s2xv2.specs.declared.mode.S2Xv2Mode.the-variants as M
 use Rattle.flat.specs.Input.{modeIn, blockIn, recordIn}
-use Rattle.flat.proofs.Back.{is-bool, is-selected, is-8, is-32, is-superframe}
+use Rattle.flat.specs.Output.{isReserved}
+use Rattle.flat.proofs.Back.{reserved-flag, is-bool, is-selected, is-8, is-32, is-superframe}
 use Rattle.flat.specs.declared.types.FlatSuperframe.{FlatSuperframe}
 use Rattle.flat.specs.declared.types.FlatRecord.{FlatRecord}
 use Rattle.measure.specs.Flagged.{Flagged}
@@ -48,39 +50,35 @@ pub record Asked (code hs ts sf res : ℕ) : Type 0 where
   pub timeslice : isOne ts ≡ hasTimeslice (modeIn res code)
   pub superframe : isOne sf ≡ hasSuperframe (modeIn res code)
 
--- flags that are known
-known : (code hs ts sf res : ℕ) (a b d e : ℕ) → hs ≡ a → ts ≡ b → sf ≡ d → res ≡ e → Asked code a b d e → Asked code hs ts sf res
-known code hs ts sf res a b d e p q r s k = rw (p, q, r, s) k
+bit-small : (b : Bool) → bit b < 2
+bit-small true = omega arith
+bit-small false = omega arith
 
-due-rest : (v : ℕ) → 6 ≤ v → dueOf v ≡ 8
-due-rest v h =
-    simp (
-      ne-eqb v 0 (λ d. omega arith),
-      ne-eqb v 1 (λ d. omega arith),
-      ne-eqb v 2 (λ d. omega arith),
-      ne-eqb v 3 (λ d. omega arith),
-      ne-eqb v 4 (λ d. omega arith),
-      ne-eqb v 5 (λ d. omega arith),
-    )
+reserved-small : (m : S2Xv2Mode) → isReserved m < 2
+reserved-small m = ltb-true _ _ (reserved-flag m)
+
+-- a flag that says of a code's mode what is so changes nothing
+mode-same : (n res : ℕ) → res ≡ isReserved (modeOf n) → modeIn res n ≡ modeOf n
+mode-same n res = by-code (λ n m. res ≡ isReserved m → when (isOne res) (M.Reserved n) m ≡ m) (λ e. rw e refl) (λ e. rw e refl) (λ e. rw e refl) (λ e. rw e refl) (λ e. rw e refl) (λ e. rw e refl) (λ v h e. rw e refl) n
 
 asked : (code hs ts sf res : ℕ) → hs < 2 → ts < 2 → sf < 2 → res < 2 → hs + 2 * ts + 4 * sf + 8 * res ≡ dueOf code → Asked code hs ts sf res
-unfolding modeOf
-asked zero hs ts sf res h k l m e =
-    known 0 hs ts sf res 0 0 0 0 (omega arith) (omega arith) (omega arith) (omega arith) (record { name = refl; selector = refl; timeslice = refl; superframe = refl })
-asked (suc zero) hs ts sf res h k l m e =
-    known 1 hs ts sf res 1 0 0 0 (omega arith) (omega arith) (omega arith) (omega arith) (record { name = refl; selector = refl; timeslice = refl; superframe = refl })
-asked (suc (suc zero)) hs ts sf res h k l m e =
-    known 2 hs ts sf res 1 1 0 0 (omega arith) (omega arith) (omega arith) (omega arith) (record { name = refl; selector = refl; timeslice = refl; superframe = refl })
-asked (suc (suc (suc zero))) hs ts sf res h k l m e =
-    known 3 hs ts sf res 0 0 0 0 (omega arith) (omega arith) (omega arith) (omega arith) (record { name = refl; selector = refl; timeslice = refl; superframe = refl })
-asked (suc (suc (suc (suc zero)))) hs ts sf res h k l m e =
-    known 4 hs ts sf res 0 0 1 0 (omega arith) (omega arith) (omega arith) (omega arith) (record { name = refl; selector = refl; timeslice = refl; superframe = refl })
-asked (suc (suc (suc (suc (suc zero))))) hs ts sf res h k l m e =
-    known 5 hs ts sf res 0 1 1 0 (omega arith) (omega arith) (omega arith) (omega arith) (record { name = refl; selector = refl; timeslice = refl; superframe = refl })
-asked (suc (suc (suc (suc (suc (suc n)))))) hs ts sf res h k l m e =
-    let d = e ∙ due-rest (suc (suc (suc (suc (suc (suc n)))))) (omega arith) in
-    known (suc (suc (suc (suc (suc (suc n)))))) hs ts sf res 0 0 0 1 (omega arith) (omega arith) (omega arith) (omega arith)
-    (record { name = le-ltb (suc (suc (suc (suc (suc (suc n)))))) 6 (omega arith); selector = refl; timeslice = refl; superframe = refl })
+asked code hs ts sf res h k l m e =
+    let mode = modeOf code in
+    let a = bit-small (hasSelector mode) in
+    let b = bit-small (hasTimeslice mode) in
+    let c = bit-small (hasSuperframe mode) in
+    let d = reserved-small mode in
+    let q : res ≡ isReserved mode = omega arith in
+    let f : sf ≡ bit (hasSuperframe mode) = omega arith in
+    let t : ts ≡ bit (hasTimeslice mode) = omega arith in
+    let s : hs ≡ bit (hasSelector mode) = omega arith in
+    let same = mode-same code res q in
+    record {
+      name = ap misnamed same ∙ mode-named code;
+      selector = ap isOne s ∙ is-bit _ ∙ sym (ap hasSelector same);
+      timeslice = ap isOne t ∙ is-bit _ ∙ sym (ap hasTimeslice same);
+      superframe = ap isOne f ∙ is-bit _ ∙ sym (ap hasSuperframe same);
+    }
 
 pub code-in : (res code : ℕ) → codeOf (modeIn res code) ≡ code
 code-in res code = go (isOne res)

@@ -1,23 +1,26 @@
--- What the writer's quick tests find of numbers that cross: `Agrees`, `CoreFits`, `ScramblingFits`, `BondsFit`, `BlockFits` and `SuperframeFits`. `dueOf` is what
--- a mode asks for. `Checked` says of a record that it passes both lists, and `Ready` that nothing is refused. Assumes nothing.
+-- What the writer's quick tests find of numbers that cross: `Agrees`, `CoreFits`, `ScramblingFits`, `BondsFit`, `BlockFits` and `SuperframeFits`. `dueIn` is what
+-- a mode asks for, and `dueOf` the mode of a code. `Checked` says of a record that it passes both lists, and `Ready` that nothing is refused. Assumes nothing.
 use mathlib.Core.Path.{_≡_}
 use mathlib.Core.List.{List}
 use Prim.Native.Nat.{ℕ, _+_, _*_, _<_, _≤_}
-use lib.Dec.{eqb}
 use Rattle.wire.specs.Flags.{when, bit, isOne, and}
+use Rattle.s2xv2.specs.Table144c.{modeOf, hasSelector, hasTimeslice, hasSuperframe}
 use Rattle.s2xv2.specs.Encode.{lessOne, encodedLength}
 use Rattle.s2xv2.specs.ListA.{listA}
 use Rattle.s2xv2.specs.ListB.{listB}
 use Rattle.s2xv2.proofs.Lists.{Clear}
+use Rattle.s2xv2.specs.declared.mode.S2Xv2Mode.{S2Xv2Mode}
 use Rattle.s2xv2.specs.declared.record.S2Xv2SatelliteDeliverySystem.{S2Xv2SatelliteDeliverySystem}
+use Rattle.flat.specs.Output.{isReserved}
 use Rattle.flat.specs.declared.types.FlatSuperframe.{FlatSuperframe}
 use Rattle.flat.specs.declared.types.FlatRecord.{FlatRecord}
 
 -- 1 for a scrambling selector, 2 for a timeslice, 4 for a superframe block, 8 for a mode that has no name
+abbrev pub dueIn : S2Xv2Mode → ℕ
+dueIn m = bit (hasSelector m) + 2 * bit (hasTimeslice m) + 4 * bit (hasSuperframe m) + 8 * isReserved m
+
 abbrev pub dueOf : ℕ → ℕ
-dueOf code =
-    when (eqb code 0) 0
-    (when (eqb code 1) 1 (when (eqb code 2) 3 (when (eqb code 3) 0 (when (eqb code 4) 4 (when (eqb code 5) 6 8)))))
+dueOf code = dueIn (modeOf code)
 
 pub record Agrees (c : FlatRecord) : Type 0 where
   pub stream : c .«has_input_stream_identifier» ≡ c .«multiple_input_stream_flag»

@@ -17,7 +17,7 @@ use Rattle.layout.specs.Layout.{asked}
 use Rattle.layout.specs.declared.present.Present.{Present}
 use Rattle.layout.specs.declared.ends.Ends.{Ends}
 use Rattle.s2xv2.proofs.Back.{bit-of}
-use Rattle.s2xv2.proofs.Fields.{code-mode}
+use Rattle.s2xv2.proofs.Modes.{code-mode}
 use Rattle.flat.specs.Core.{coreOf}
 use Rattle.flat.specs.Output.{answerOut, superframeOut, recordOut}
 use Rattle.flat.proofs.Back.{is-bool, is-selected, is-8, is-32, is-superframe}

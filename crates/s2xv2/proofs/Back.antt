@@ -20,7 +20,7 @@ use Rattle.s2xv2.specs.Options.{selected, someBoolIf, some8If, someSuper
 use Rattle.s2xv2.specs.Read.{Present, presentIn, only, streamEnd, scramblingEnd, timesliceEnd, hasSecond, bondSize, bondEnd, hasPlan, superframeSize, superframeEnd, bodySize, planAt, superframeAt, byteAt, reserved6At, indexAt, reserved7At, countIf, firstIdAt, secondIdAt, recordAt, recordIn}
 use Rattle.s2xv2.specs.Encode.{topBit, coreValues, byteParts, scramblingParts, bondParts, nibbleOf, superframeValues, planParts, superframeParts, partsOf, encode}
 use Rattle.s2xv2.specs.declared.superframe.OptionSuperframe.the-variants as OS
-use Rattle.s2xv2.proofs.Fields.{code-mode}
+use Rattle.s2xv2.proofs.Modes.{code-mode}
 
 -- ---- what is made of a field gives the field back
 

@@ -23,7 +23,7 @@ use Rattle.s2xv2.specs.Carried.{carriedSuperframe, carriedId, carried}
 use Rattle.s2xv2.specs.Held.{HeldSuperframe, Held}
 use Rattle.s2xv2.specs.declared.superframe.S2Xv2Superframe.{S2Xv2Superframe}
 use Rattle.s2xv2.specs.declared.mode.S2Xv2Mode.the-variants as M
-use Rattle.s2xv2.proofs.Fields.{code-mode}
+use Rattle.s2xv2.proofs.Modes.{code-mode, mode-named}
 use Rattle.s2xv2.proofs.Lists.{Clear, clear-first}
 use Rattle.s2xv2.proofs.Back.{nibble-back}
 
@@ -57,22 +57,6 @@ sffi-said false v = refl
 plan-said : (t : Bool) (v : ℕ) → and (isSome32 (some32If t v)) (not t) ≡ false
 plan-said true v = refl
 plan-said false v = refl
-
--- a code that has a variant of its own gives that variant
-mode-named : (n : ℕ) → misnamed (modeOf n) ≡ false
-unfolding modeOf
-mode-named n = go (eqb n 0) (eqb n 1) (eqb n 2) (eqb n 3) (eqb n 4) (eqb n 5) (eqb-false n 0) (eqb-false n 1) (eqb-false n 2) (eqb-false n 3) (eqb-false n 4) (eqb-false n 5)
-  where
-    go : (a b c d e f : Bool) → (a ≡ false → n ≡ 0 → ⊥) → (b ≡ false → n ≡ 1 → ⊥) → (c ≡ false → n ≡ 2 → ⊥) → (d ≡ false → n ≡ 3 → ⊥) → (e ≡ false → n ≡ 4 → ⊥) → (f ≡ false → n ≡ 5 → ⊥)
-        → misnamed (when a M.Reserved0 (when b M.S2X (when c M.S2XTimeSlicing (when d M.Reserved3 (when e M.S2XSuperframe (when f M.S2XSuperframeTimeSlicing (M.Reserved n))))))) ≡ false
-    go true b c d e f h₀ h₁ h₂ h₃ h₄ h₅ = refl
-    go false true c d e f h₀ h₁ h₂ h₃ h₄ h₅ = refl
-    go false false true d e f h₀ h₁ h₂ h₃ h₄ h₅ = refl
-    go false false false true e f h₀ h₁ h₂ h₃ h₄ h₅ = refl
-    go false false false false true f h₀ h₁ h₂ h₃ h₄ h₅ = refl
-    go false false false false false true h₀ h₁ h₂ h₃ h₄ h₅ = refl
-    go false false false false false false h₀ h₁ h₂ h₃ h₄ h₅ =
-        let k : 6 ≤ n = omega (arith, h₀ refl, h₁ refl, h₂ refl, h₃ refl, h₄ refl, h₅ refl) in le-ltb n 6 k
 
 -- bonds are counted only where there are some
 counted : (t d : Bool) → and (ltb 0 (countIf t d)) (not t) ≡ false

@@ -12,27 +12,11 @@ use Rattle.wire.specs.Flags.{when, isOne, and}
 use Rattle.wire.specs.Bits.{bits}
 use Rattle.s2xv2.specs.Table144c.{modeOf, codeOf, hasSelector, hasTimeslice, hasSuperframe}
 use Rattle.s2xv2.specs.Read.{Present, presentIn, streamEnd, scramblingEnd, timesliceEnd, superframeAt, recordAt, recordIn}
+use Rattle.s2xv2.proofs.Modes.{code-mode}
 use Rattle.s2xv2.specs.declared.option.OptionBool.the-variants as OB
 use Rattle.s2xv2.specs.declared.option.OptionU8.the-variants as O8
 use Rattle.s2xv2.specs.declared.option.OptionU32.the-variants as O32
 use Rattle.s2xv2.specs.declared.mode.S2Xv2Mode.the-variants as M
-
--- a code has a mode, and the mode has the code
-pub code-mode : (n : ℕ) → codeOf (modeOf n) ≡ n
-unfolding modeOf
-code-mode n =
-    go (eqb n 0) (eqb n 1) (eqb n 2) (eqb n 3) (eqb n 4) (eqb n 5)
-    (eqb-true n 0) (eqb-true n 1) (eqb-true n 2) (eqb-true n 3) (eqb-true n 4) (eqb-true n 5)
-  where
-    go : (a b c d e f : Bool) → (a ≡ true → n ≡ 0) → (b ≡ true → n ≡ 1) → (c ≡ true → n ≡ 2) → (d ≡ true → n ≡ 3) → (e ≡ true → n ≡ 4) → (f ≡ true → n ≡ 5)
-        → codeOf (when a M.Reserved0 (when b M.S2X (when c M.S2XTimeSlicing (when d M.Reserved3 (when e M.S2XSuperframe (when f M.S2XSuperframeTimeSlicing (M.Reserved n))))))) ≡ n
-    go true b c d e f h₀ h₁ h₂ h₃ h₄ h₅ = sym (h₀ refl)
-    go false true c d e f h₀ h₁ h₂ h₃ h₄ h₅ = sym (h₁ refl)
-    go false false true d e f h₀ h₁ h₂ h₃ h₄ h₅ = sym (h₂ refl)
-    go false false false true e f h₀ h₁ h₂ h₃ h₄ h₅ = sym (h₃ refl)
-    go false false false false true f h₀ h₁ h₂ h₃ h₄ h₅ = sym (h₄ refl)
-    go false false false false false true h₀ h₁ h₂ h₃ h₄ h₅ = sym (h₅ refl)
-    go false false false false false false h₀ h₁ h₂ h₃ h₄ h₅ = refl
 
 module _ (s : List ℕ) where
   -- The core, bytes 0 to 17.

@@ -20,6 +20,7 @@ use Rattle.s2xv2.specs.Options.{isSomeBool, isSome8, isSome32, isSomeSup
 use Rattle.s2xv2.specs.Encode.{topBit, coreValues, byteParts, scramblingParts, lessOne, bondParts, superframeEndValues, planParts, superframeParts, streamOf, scramblingOf, timesliceOf, bondOf, superframeOf, partsOf}
 use Rattle.s2xv2.specs.ListA.{firstFrom, misnamed, inSuperframe, listA}
 use Rattle.s2xv2.specs.ListB.{wide, superframeB, listB}
+use Rattle.s2xv2.proofs.Modes.{unnamed}
 use Rattle.s2xv2.specs.Held.{HeldSuperframe, Held}
 use Rattle.s2xv2.specs.declared.record.S2Xv2SatelliteDeliverySystem.{S2Xv2SatelliteDeliverySystem}
 use Rattle.s2xv2.specs.declared.superframe.S2Xv2Superframe.{S2Xv2Superframe}
@@ -88,16 +89,7 @@ named M.S2XTimeSlicing e = refl
 named M.Reserved3 e = refl
 named M.S2XSuperframe e = refl
 named M.S2XSuperframeTimeSlicing e = refl
-named (M.Reserved v) e =
-    let h = ltb-false v 6 e in
-    simp (
-      ne-eqb v 0 (λ d. omega arith),
-      ne-eqb v 1 (λ d. omega arith),
-      ne-eqb v 2 (λ d. omega arith),
-      ne-eqb v 3 (λ d. omega arith),
-      ne-eqb v 4 (λ d. omega arith),
-      ne-eqb v 5 (λ d. omega arith),
-    )
+named (M.Reserved v) e = unnamed v (ltb-false v 6 e)
 
 bonded : (n c : ℕ) → and (ltb 0 n) (not (eqb c 1)) ≡ false → eqb c 1 ≡ false → n ≡ 0
 bonded n c e h = go (ltb 0 n) refl (rw h at e)

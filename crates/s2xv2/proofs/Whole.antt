@@ -85,19 +85,28 @@ unfolding bondParts
 bond-size true r n ids = ap (λ (k : ℕ). 1 + k) (ids-size 0 n ids)
 bond-size false r n ids = refl
 
--- What is counted for each part: one byte for the stream id and the timeslice, 3 for the index, 1 + 4 × count for the bonds.
-pub parts-size : (r : S2Xv2SatelliteDeliverySystem)
-    → sizes (partsOf r)
-    ≡ 18 + only (isSome8 (r .«input_stream_identifier»)) 1 + only (selected (r .«scrambling_sequence_selector»)) 3 + only (isSome8 (r .«timeslice_number»)) 1
-    + only (eqb (r .«channel_bond») 1) (1 + 4 * r .«num_channel_bonds») + sizes (superframeOf r)
+-- the size of all parts is the sum of the sizes of each
+pub parts-split : (r : S2Xv2SatelliteDeliverySystem)
+    → sizes (partsOf r) ≡ 18 + sizes (streamOf r) + sizes (scramblingOf r) + sizes (timesliceOf r) + sizes (bondOf r) + sizes (superframeOf r)
 unfolding partsOf
-parts-size r =
+parts-split r =
     omega (
       arith,
       sizes-append (streamOf r) (scramblingOf r ++ (timesliceOf r ++ (bondOf r ++ superframeOf r))),
       sizes-append (scramblingOf r) (timesliceOf r ++ (bondOf r ++ superframeOf r)),
       sizes-append (timesliceOf r) (bondOf r ++ superframeOf r),
       sizes-append (bondOf r) (superframeOf r),
+    )
+
+-- What is counted for each part: one byte for the stream id and the timeslice, 3 for the index, 1 + 4 × count for the bonds.
+pub parts-size : (r : S2Xv2SatelliteDeliverySystem)
+    → sizes (partsOf r)
+    ≡ 18 + only (isSome8 (r .«input_stream_identifier»)) 1 + only (selected (r .«scrambling_sequence_selector»)) 3 + only (isSome8 (r .«timeslice_number»)) 1
+    + only (eqb (r .«channel_bond») 1) (1 + 4 * r .«num_channel_bonds») + sizes (superframeOf r)
+parts-size r =
+    omega (
+      arith,
+      parts-split r,
       byte-size (r .«input_stream_identifier»),
       scrambling-size (selected (r .«scrambling_sequence_selector»)) (r .«reserved_zero_future_use_6») (r .«scrambling_sequence_index»),
       byte-size (r .«timeslice_number»),

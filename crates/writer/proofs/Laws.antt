@@ -65,18 +65,6 @@ encode-parts r tail =
     step : (ps qs : List Part) {l : List ℕ} → bytesOf qs tail ≡ l → bytesOf (ps ++ qs) tail ≡ alone ps ++ l
     step ps qs e = bytesOf-append ps qs tail ∙ bytesOf-tail ps (bytesOf qs tail) ∙ ap (λ (k : List ℕ). alone ps ++ k) e
 
-pub parts-split : (r : S2Xv2SatelliteDeliverySystem)
-    → sizes (partsOf r) ≡ 18 + sizes (streamOf r) + sizes (scramblingOf r) + sizes (timesliceOf r) + sizes (bondOf r) + sizes (superframeOf r)
-unfolding partsOf
-parts-split r =
-    omega (
-      arith,
-      sizes-append (streamOf r) (scramblingOf r ++ (timesliceOf r ++ (bondOf r ++ superframeOf r))),
-      sizes-append (scramblingOf r) (timesliceOf r ++ (bondOf r ++ superframeOf r)),
-      sizes-append (timesliceOf r) (bondOf r ++ superframeOf r),
-      sizes-append (bondOf r) (superframeOf r),
-    )
-
 -- a list B of which no test holds, part by part
 pub clear-parts : (r : S2Xv2SatelliteDeliverySystem) → Clear (listB r) → Clear (coreB r) × Clear (scramblingB r) × Clear (bondB r) × Clear (superframeB (r .superframe))
 clear-parts r h =
