@@ -10,7 +10,7 @@ use lib.ListN.{length, take, drop, getD}
 use lib.Seq.{take-nil, drop-nil}
 use lib.Dec.{eqb}
 use Rattle.wire.specs.Flags.{when}
-use Rattle.s2xv2.specs.Read.{numberOf, readOf, readTold, bodySize, tailOf}
+use Rattle.s2xv2.specs.Read.{numberOf, readTold, bodySize, tailOf}
 use Rattle.s2xv2.proofs.Reach.{accepted-reaches, told-accepted}
 use Rattle.reader.proofs.Laws.{rest}
 use Rattle.form.specs.Envelope.{stuffingTag}

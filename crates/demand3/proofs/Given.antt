@@ -4,9 +4,9 @@
 use mathlib.Core.Path.{_≡_, refl, sym, ap, _∙_}
 use mathlib.Core.List.{List, [], _∷_}
 use mathlib.Core.Bool.{true}
-use Prim.Native.Nat.{ℕ, zero, suc, _+_, _-_, _≤_, _<_, min}
+use Prim.Native.Nat.{ℕ, zero, suc, _-_, _≤_}
 use native.Mathlib.Omega.{arith}
-use lib.ListN.{length, getD, replicate, length-replicate}
+use lib.ListN.{replicate, length-replicate}
 use Rattle.wire.specs.Widths.{Bytes}
 use Rattle.s2xv2.specs.Default.{defaultRecord}
 use Rattle.s2xv2.specs.Encode.{byteParts, scramblingParts, bondParts, superframeParts, partsOf, encodedLength}
@@ -20,7 +20,7 @@ use Rattle.form.proofs.Laws.{cover-form}
 use Rattle.job.specs.declared.job.Job.{Job}
 use Rattle.job.specs.Job.{fair}
 use Rattle.job.proofs.Fairness.{fair-facts, facts-fits}
-use Rattle.begin.specs.Begin.{sizeOf, descriptorOf}
+use Rattle.begin.specs.Begin.{sizeOf}
 use Rattle.demand3.specs.Demand3.{Ready}
 use Rattle.demand3.specs.Stepping.{Going, begun, stepping}
 use Rattle.demand3.proofs.Fold.{size-is}

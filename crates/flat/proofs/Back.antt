@@ -5,7 +5,7 @@ use mathlib.Core.Path.{_≡_, refl}
 use mathlib.Core.Bool.{Bool, true, false}
 use Prim.Native.Nat.{ℕ}
 use lib.Dec.{ltb}
-use Rattle.wire.specs.Flags.{bit, isOne, when, and}
+use Rattle.wire.specs.Flags.{bit, isOne, and}
 use Rattle.s2xv2.specs.Table144c.{modeOf, codeOf}
 use Rattle.s2xv2.specs.Options.{isSomeBool, isSome8, isSome32, isSomeSuperframe, selected, orZero8, orZero32, someBoolIf, some8If, some32If, someSuperframeIf}
 use Rattle.s2xv2.specs.declared.mode.S2Xv2Mode.{S2Xv2Mode}

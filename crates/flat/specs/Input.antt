@@ -1,7 +1,7 @@
 -- What comes from C: `recordIn` is the record that is meant, `blockIn` its block, `modeIn` its mode. `valid` says that there is one: all `flags`, those of `recordFlags` and of `blockFlags`, are 0 or 1, and
 -- a mode without `Reserved` is one that has a name (`named`). `foreign` is what is answered where there is none. `joinedOf` two numbers has the bits of both. Assumes nothing.
 use Prim.Native.Nat.{ℕ}
-use mathlib.Core.List.{List, [], _∷_, _++_}
+use mathlib.Core.List.{List, [], _∷_}
 use mathlib.Core.Bool.{Bool, true}
 use lib.Bits.{bitOr}
 use lib.Dec.{ltb}

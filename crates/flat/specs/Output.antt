@@ -1,6 +1,6 @@
 -- What crosses to C: `answerOut` of an answer's numbers, `recordOut` of a record, `superframeOut` of its block, `isReserved` of its mode. Assumes nothing.
 use Prim.Native.Nat.{ℕ}
-use mathlib.Core.List.{List, [], _∷_}
+use mathlib.Core.List.{List}
 use lib.ListN.{getD}
 use Rattle.wire.specs.Flags.{bit}
 use Rattle.s2xv2.specs.Table144c.{codeOf}

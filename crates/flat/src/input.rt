@@ -1,7 +1,7 @@
 // From what crosses to the library's types.
 ghost use mathlib.Core.Path.{_≡_};
 ghost use lib.Dec.{ltb};
-ghost use Rattle.wire.specs.Flags.{when, isOne, and};
+ghost use Rattle.wire.specs.Flags.{when, isOne};
 ghost use Rattle.s2xv2.specs.Options.{someBoolIf, some8If, some32If, someSuperframeIf};
 ghost use Rattle.flat.specs.Core.{coreOf};
 ghost use Rattle.flat.specs.Input.{modeIn, blockIn, recordIn, blockFlags, recordFlags, flags, named, valid, joinedOf};

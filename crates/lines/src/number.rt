@@ -1,5 +1,4 @@
 // A number in decimal digits.
-ghost use mathlib.Core.Path.{_≡_};
 ghost use Prim.Native.Nat.{_<_};
 ghost use Rattle.lines.specs.Out.{_from_, Wrote};
 ghost use Rattle.lines.specs.Number.{digitOf, threeOf, decimalOf};

@@ -1,5 +1,4 @@
 // Bytes into a lent buffer, from a place on, as far as the buffer reaches. Each call gives the place behind what it stored.
-ghost use mathlib.Core.Path.{_≡_};
 ghost use mathlib.Core.List.{_∷_, []};
 ghost use Rattle.lines.specs.Out.{_from_, Wrote};
 

@@ -2,16 +2,16 @@
 -- Assumes nothing.
 use mathlib.Core.Path.{_≡_, refl, sym, ap, _∙_}
 use mathlib.Core.Bool.{Bool, true, false}
-use Prim.Native.Nat.{ℕ, zero, suc, _+_, _*_, _<_, _≤_}
+use Prim.Native.Nat.{ℕ, _+_, _*_, _<_}
 use native.Mathlib.Omega.{arith}
 use lib.Dec.{eqb, ltb}
 use borrow.Author.Tests.{lt-leb, ltb-true, eqb-true, eqb-false}
 use Rattle.wire.specs.Flags.{when, bit, isOne, and, not, differ}
 use Rattle.s2xv2.specs.Table144c.{modeOf, codeOf, hasSelector, hasTimeslice, hasSuperframe}
 use Rattle.s2xv2.specs.Options.{isSomeBool, isSome32, selected, orZero32, someBoolIf, some8If, some32If, someSuperframeIf}
-use Rattle.s2xv2.specs.Encode.{lessOne, nibbleOf}
-use Rattle.s2xv2.specs.ListA.{misnamed, superframeA, listA}
-use Rattle.s2xv2.specs.ListB.{wide, superframeB, listB}
+use Rattle.s2xv2.specs.Encode.{nibbleOf}
+use Rattle.s2xv2.specs.ListA.{misnamed, superframeA}
+use Rattle.s2xv2.specs.ListB.{wide, superframeB}
 use Rattle.s2xv2.proofs.Lists.{Clear}
 use Rattle.s2xv2.proofs.Modes.{by-code, code-mode, mode-named}
 use Rattle.s2xv2.specs.declared.mode.S2Xv2Mode.{S2Xv2Mode}

@@ -8,18 +8,15 @@ use native.Mathlib.Omega.{arith}
 use lib.Bits.{bitAnd, and-le-l}
 use lib.Dec.{ltb}
 use borrow.Author.Tests.{ltb-true, lt-ltb}
-use Rattle.wire.specs.Flags.{when, bit, isOne, and, not}
+use Rattle.wire.specs.Flags.{bit, isOne, and}
 use Rattle.wire.specs.Parts.{_⦂_, sizes}
 use Rattle.s2xv2.specs.Read.{only}
 use Rattle.s2xv2.specs.Table144b.{superframeEnd}
-use Rattle.s2xv2.specs.Options.{isSomeBool, orZero8, some8If, some32If, someBoolIf}
-use Rattle.s2xv2.specs.ListB.{wide}
-use Rattle.s2xv2.proofs.Lists.{narrow}
-use Rattle.s2xv2.specs.Encode.{topBit, scramblingParts, nibbleOf, planParts, blockLength, superframeEndValues}
+use Rattle.s2xv2.specs.Options.{some32If}
+use Rattle.s2xv2.specs.Encode.{planParts, blockLength, superframeEndValues}
 use Rattle.s2xv2.specs.declared.superframe.S2Xv2Superframe.{S2Xv2Superframe}
 use Rattle.s2xv2.specs.declared.option.OptionU32.{OptionU32}
-use Rattle.s2xv2.specs.declared.option.OptionU32.the-variants as O32
-use Rattle.flat.specs.Input.{blockIn, valid, flags, recordFlags, blockFlags, named, joinedOf}
+use Rattle.flat.specs.Input.{blockIn, valid, flags, recordFlags, blockFlags, joinedOf}
 use Rattle.flat.proofs.Joined.{joined-below}
 use Rattle.flat.specs.declared.types.FlatSuperframe.{FlatSuperframe}
 use Rattle.flat.specs.declared.types.FlatRecord.{FlatRecord}
@@ -63,6 +60,21 @@ both-left false b e = e
 pub both-right : (a b : Bool) → and a b ≡ true → b ≡ true
 both-right true b e = e
 both-right false b e = never e
+
+-- tests in a row, each joined to those before it
+abbrev joinedTests : Bool → List Bool → Bool
+joinedTests t [] = t
+joinedTests t (u ∷ us) = joinedTests (and t u) us
+
+abbrev AllHold : List Bool → Type 0
+AllHold [] = Unit
+AllHold (t ∷ ts) = (t ≡ true) × AllHold ts
+
+pub all-hold : (t : Bool) (ts : List Bool) → joinedTests t ts ≡ true → (t ≡ true) × AllHold ts
+all-hold t [] e = (e, tt)
+all-hold t (u ∷ us) e =
+    let k = all-hold (and t u) us e in
+    (both-left t u (k .0), (both-right t u (k .0), k .1))
 
 four-below : (n a b d e : ℕ) → and (and (ltb a n) (ltb b n)) (and (ltb d n) (ltb e n)) ≡ true → (a < n) × (b < n) × (d < n) × (e < n)
 four-below n a b d e h =

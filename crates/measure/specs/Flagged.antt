@@ -1,5 +1,5 @@
 -- Records that cross with every flag 0 or 1: `Flagged` of a record, `FlaggedBlock` of its block. Assumes nothing.
-use Prim.Native.Nat.{ℕ, _<_}
+use Prim.Native.Nat.{_<_}
 use Rattle.flat.specs.declared.types.FlatSuperframe.{FlatSuperframe}
 use Rattle.flat.specs.declared.types.FlatRecord.{FlatRecord}
 

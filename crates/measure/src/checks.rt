@@ -3,7 +3,7 @@ ghost use mathlib.Core.Path.{_≡_};
 ghost use mathlib.Core.Bool.{true};
 ghost use Prim.Native.Nat.{_+_, _*_, _<_};
 ghost use Rattle.flat.specs.Input.{recordIn};
-ghost use Rattle.measure.specs.Flagged.{FlaggedBlock, Flagged};
+ghost use Rattle.measure.specs.Flagged.{Flagged};
 ghost use Rattle.measure.specs.Checks.{dueOf, Agrees, CoreFits, ScramblingFits, BondsFit, BlockFits, SuperframeFits, Checked};
 use crate::flag::both;
 use flat::input::joined;
@@ -49,13 +49,9 @@ fn agrees(c: FlatRecord) -> bool
         c.has_superframe,
         c.mode_is_reserved,
     );
-    if c.has_input_stream_identifier != c.multiple_input_stream_flag {
-        false
-    } else if parts != due(c.s2xv2_mode) {
-        false
-    } else {
-        scrambled == c.has_scrambling_sequence_index
-    }
+    (c.has_input_stream_identifier == c.multiple_input_stream_flag)
+        & (parts == due(c.s2xv2_mode))
+        & (c.has_scrambling_sequence_index == scrambled)
 }
 
 // The wire can carry the core.
@@ -69,19 +65,12 @@ fn core_fits(c: FlatRecord) -> bool
         0,
         c.reserved_zero_future_use_1,
     );
-    if 4 <= joined(first, second) {
-        false
-    } else if 16 <= c.s2xv2_mode {
-        false
-    } else if 8 <= c.roll_off {
-        false
-    } else if 32 <= c.receiver_profiles {
-        false
-    } else if 2 <= top {
-        false
-    } else {
-        c.satellite_id < 16777216
-    }
+    (joined(first, second) < 4)
+        & (c.s2xv2_mode < 16)
+        & (c.roll_off < 8)
+        & (c.receiver_profiles < 32)
+        & (top < 2)
+        & (c.satellite_id < 16777216)
 }
 
 // The wire can carry the scrambling index, where it is there.
@@ -89,11 +78,7 @@ fn scrambling_fits(there: u8, index: u32, reserved: u8) -> bool
     ensures { λ r. ⌜ (r ≡ true → ScramblingFits there index reserved) ⌝ }
 {
     if there == 1 {
-        if 262144 <= index {
-            false
-        } else {
-            reserved < 64
-        }
+        (index < 262144) & (reserved < 64)
     } else {
         true
     }
@@ -104,11 +89,7 @@ fn bonds_fit(bond: u8, count: u8, reserved: u8) -> bool
     ensures { λ r. ⌜ (r ≡ true → BondsFit bond count reserved) ⌝ }
 {
     if bond == 1 {
-        if 2 <= less_one(count) {
-            false
-        } else {
-            reserved < 128
-        }
+        (less_one(count) < 2) & (reserved < 128)
     } else {
         count == 0
     }
@@ -118,23 +99,15 @@ fn bonds_fit(bond: u8, count: u8, reserved: u8) -> bool
 fn block_fits(f: FlatSuperframe) -> bool
     ensures { λ r. ⌜ (r ≡ true → BlockFits f) ⌝ }
 {
-    if 1048576 <= f.reference_scrambling_index {
-        false
-    } else if 1048576 <= f.payload_scrambling_index {
-        false
-    } else if 4 <= f.reserved_zero_future_use_2 {
-        false
-    } else if f.has_sffi != f.sffi_selector {
-        false
-    } else if 16 <= picked(f.sffi_selector, f.sffi, f.reserved_zero_future_use_4) {
-        false
-    } else if f.has_beamhopping_time_plan_id != f.beam_hopping_time_plan_selector {
-        false
-    } else if 32 <= f.superframe_pilots_wh_sequence_number {
-        false
-    } else {
-        f.postamble_pli < 8
-    }
+    let nibble = picked(f.sffi_selector, f.sffi, f.reserved_zero_future_use_4);
+    (f.reference_scrambling_index < 1048576)
+        & (f.payload_scrambling_index < 1048576)
+        & (f.reserved_zero_future_use_2 < 4)
+        & (f.has_sffi == f.sffi_selector)
+        & (nibble < 16)
+        & (f.has_beamhopping_time_plan_id == f.beam_hopping_time_plan_selector)
+        & (f.superframe_pilots_wh_sequence_number < 32)
+        & (f.postamble_pli < 8)
 }
 
 // The same of a block that may be absent.
@@ -150,26 +123,15 @@ pub(crate) fn is_checked(c: FlatRecord) -> bool
     ensures { λ r. ⌜ (r ≡ true → Checked (recordIn c)) ⌝ }
 {
     let block = c.superframe;
-    if !agrees(c) {
-        return false;
-    }
-    if !core_fits(c) {
-        return false;
-    }
-    if !superframe_fits(c.has_superframe, block) {
-        return false;
-    }
-    let carried = scrambling_fits(
+    let scrambling = scrambling_fits(
         c.has_scrambling_sequence_index,
         c.scrambling_sequence_index,
         c.reserved_zero_future_use_6,
     );
-    if !carried {
-        return false;
-    }
-    bonds_fit(
+    let bonds = bonds_fit(
         c.channel_bond,
         c.num_channel_bonds,
         c.reserved_zero_future_use_7,
-    )
+    );
+    agrees(c) & core_fits(c) & scrambling & bonds & superframe_fits(c.has_superframe, block)
 }

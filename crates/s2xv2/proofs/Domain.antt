@@ -3,11 +3,11 @@
 use mathlib.Core.Path.{_≡_, refl}
 use mathlib.Core.List.{List, [], _∷_}
 use mathlib.Core.Bool.{Bool, true, false}
-use Prim.Native.Nat.{ℕ, _+_, _^_, _≤_, _<_}
+use Prim.Native.Nat.{ℕ, _+_, _^_, _<_}
 use native.Mathlib.Omega.{arith}
-use lib.Dec.{eqb, ltb}
+use lib.Dec.{ltb}
 use lib.Pow.{pow-pos}
-use borrow.Author.Tests.{le-ltb, lt-leb, eqb-false}
+use borrow.Author.Tests.{lt-leb}
 use Rattle.wire.specs.Flags.{when, isOne, and, not, differ}
 use Rattle.wire.specs.Bits.{bits}
 use Rattle.wire.specs.Widths.{Bytes}
@@ -17,12 +17,11 @@ use Rattle.s2xv2.specs.Table144c.{modeOf, hasSelector}
 use Rattle.s2xv2.specs.Options.{isSomeBool, isSome8, isSome32, isSomeSuperframe, selected, orZero8, orZero32, someBoolIf, some8If, some32If, someSuperframeIf}
 use Rattle.s2xv2.specs.Read.{Present, presentIn, only, streamEnd, scramblingEnd, timesliceEnd, hasSecond, bondEnd, hasPlan, superframeAt, countIf, recordAt, recordIn}
 use Rattle.s2xv2.specs.Encode.{lessOne}
-use Rattle.s2xv2.specs.ListA.{misnamed, inSuperframe, listA, inconsistency}
+use Rattle.s2xv2.specs.ListA.{inSuperframe, listA, inconsistency}
 use Rattle.s2xv2.specs.ListB.{wide, superframeB, listB, unwritable}
 use Rattle.s2xv2.specs.Carried.{carriedSuperframe, carriedId, carried}
 use Rattle.s2xv2.specs.Held.{HeldSuperframe, Held}
 use Rattle.s2xv2.specs.declared.superframe.S2Xv2Superframe.{S2Xv2Superframe}
-use Rattle.s2xv2.specs.declared.mode.S2Xv2Mode.the-variants as M
 use Rattle.s2xv2.proofs.Modes.{code-mode, mode-named}
 use Rattle.s2xv2.proofs.Lists.{Clear, clear-first}
 use Rattle.s2xv2.proofs.Back.{nibble-back}

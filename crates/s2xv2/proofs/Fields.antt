@@ -1,22 +1,20 @@
 -- Where each field stands, by byte, bits before it, and width, as document 01 has it. The record's definition goes by the widths of Table
 -- 144b alone, so that the two descriptions hold each other. Reserved bits are among the fields, wherever the wire carries them.
 -- Assumes nothing.
-use mathlib.Core.Path.{_≡_, refl, sym}
+use mathlib.Core.Path.{_≡_, refl}
 use mathlib.Core.List.{List}
 use mathlib.Core.Bool.{Bool, true, false}
 use Prim.Native.Nat.{ℕ, _+_}
 use lib.ListN.{getD}
 use lib.Dec.{eqb}
-use borrow.Author.Tests.{eqb-true}
 use Rattle.wire.specs.Flags.{when, isOne, and}
 use Rattle.wire.specs.Bits.{bits}
 use Rattle.s2xv2.specs.Table144c.{modeOf, codeOf, hasSelector, hasTimeslice, hasSuperframe}
-use Rattle.s2xv2.specs.Read.{Present, presentIn, streamEnd, scramblingEnd, timesliceEnd, superframeAt, recordAt, recordIn}
+use Rattle.s2xv2.specs.Read.{presentIn, streamEnd, scramblingEnd, timesliceEnd, superframeAt, recordAt, recordIn}
 use Rattle.s2xv2.proofs.Modes.{code-mode}
 use Rattle.s2xv2.specs.declared.option.OptionBool.the-variants as OB
 use Rattle.s2xv2.specs.declared.option.OptionU8.the-variants as O8
 use Rattle.s2xv2.specs.declared.option.OptionU32.the-variants as O32
-use Rattle.s2xv2.specs.declared.mode.S2Xv2Mode.the-variants as M
 
 module _ (s : List ℕ) where
   -- The core, bytes 0 to 17.

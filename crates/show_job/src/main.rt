@@ -1,6 +1,5 @@
 // One job, store by store: the slot after each, and what it reads as. docs/JOB.md shows what this program writes.
 ghost use Prim.Native.Nat.{_<_};
-use job::job::Job;
 use libc::STDOUT_FILENO;
 use s2xv2::record::S2Xv2SatelliteDeliverySystem;
 use slot::answer::SlotAnswer;

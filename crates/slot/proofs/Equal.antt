@@ -4,7 +4,6 @@ use mathlib.Core.Path.{_≡_, refl, sym, ap, _∙_}
 use mathlib.Core.List.{List, [], _∷_}
 use Prim.Native.Nat.{ℕ, zero, suc}
 use lib.ListN.{length, getD}
-use Rattle.s2xv2.specs.declared.answer.Refusal.{Refusal}
 use Rattle.s2xv2.specs.declared.answer.Refusal.the-variants as R
 use Rattle.s2xv2.specs.Read.{Reading}
 use Rattle.s2xv2.specs.declared.record.S2Xv2SatelliteDeliverySystem.{S2Xv2SatelliteDeliverySystem}

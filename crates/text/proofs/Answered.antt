@@ -1,11 +1,10 @@
 -- The text of a body by what the reader answers: `accepted-text` and `refused-text`. Assumes nothing.
 use Prim.Native.Nat.{ℕ}
-use mathlib.Core.Path.{_≡_, refl, sym, _∙_, ap, ap₂}
-use mathlib.Core.Bool.{Bool, false}
+use mathlib.Core.Path.{_≡_, refl, sym, _∙_, ap}
+use mathlib.Core.Bool.{false}
 use mathlib.Core.List.{List, [], _∷_}
 use lib.ListN.{length}
 use lib.Dec.{eqb}
-use Rattle.wire.specs.Flags.{when}
 use Rattle.s2xv2.specs.Answer.{numbers, told}
 use Rattle.s2xv2.specs.Read.{Reading, readTold, numberOf, readOf, tailOf}
 use Rattle.s2xv2.specs.declared.answer.Refusal.{Refusal}

@@ -1,6 +1,6 @@
 -- How long the text of a body can get: `dump-most`, at most 1,067 bytes, so that a buffer of 2,048 holds it. The rest are its parts.
 -- Assumes nothing.
-use Prim.Native.Nat.{ℕ, _+_, _*_, _≤_}
+use Prim.Native.Nat.{ℕ, _+_, _≤_}
 use mathlib.Core.List.{List, [], _∷_}
 use native.Mathlib.Omega.{arith}
 use lib.ListN.{length}

@@ -1,5 +1,4 @@
 // The dump of a body.
-ghost use mathlib.Core.Path.{_≡_};
 ghost use Rattle.s2xv2.specs.Answer.{numbers as Answer·numbers};
 ghost use Rattle.lines.specs.Out.{_from_, Wrote};
 ghost use Rattle.lines.specs.Line.{wordsOf, refusedOf};

@@ -1,5 +1,4 @@
 // The lines of the body's length and of the core's fields.
-ghost use mathlib.Core.Path.{_≡_};
 ghost use Rattle.lines.specs.Out.{_from_, Wrote};
 ghost use Rattle.s2xv2.specs.Table144c.{codeOf};
 ghost use Rattle.lines.specs.Line.{codes, lineOf};

@@ -1,5 +1,4 @@
 // The lines of the parts that may be there between the core and the superframe block.
-ghost use mathlib.Core.Path.{_≡_};
 ghost use Rattle.lines.specs.Out.{_from_, Wrote};
 ghost use Rattle.text.specs.Fields.{line8 as Fields·line8, scramblingOf, idOf, secondOf, bondsOf, partsOf};
 use lines::line::line8;

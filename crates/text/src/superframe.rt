@@ -1,5 +1,4 @@
 // The lines of the superframe block.
-ghost use mathlib.Core.Path.{_≡_};
 ghost use Rattle.lines.specs.Out.{_from_, Wrote};
 ghost use Rattle.text.specs.Fields.{blockStartOf, nibbleOf, line32 as Fields·line32, blockMiddleOf, blockEndOf, blockOf, superframeOf};
 use lines::line::flag;

@@ -9,7 +9,7 @@ use native.Mathlib.Omega.{arith}
 use lib.ListN.{length, getD}
 use Rattle.wire.specs.Widths.{pack}
 use Rattle.wire.specs.Parts.{Part, bytesOf, sizes}
-use Rattle.wire.proofs.Parts.{Whole, bytesOf-append, bytesOf-tail, sizes-append, length-bytesOf}
+use Rattle.wire.proofs.Parts.{Whole, bytesOf-append, bytesOf-tail, length-bytesOf}
 use Rattle.s2xv2.specs.Table144b as T
 use Rattle.s2xv2.specs.Options.{orZero32, some32If}
 use Rattle.s2xv2.specs.ListB.{wide, coreB, scramblingB, bondB, superframeB, listB}
@@ -19,7 +19,7 @@ use Rattle.s2xv2.specs.declared.option.OptionU32.the-variants as O32
 use Rattle.s2xv2.specs.declared.superframe.OptionSuperframe.the-variants as OS
 use Rattle.s2xv2.proofs.Lists.{Clear, clear-left, clear-right, narrow}
 use Rattle.s2xv2.proofs.Whole.{bond-size}
-use Rattle.wire.specs.Flags.{bit, isOne, and, not}
+use Rattle.wire.specs.Flags.{isOne, and, not}
 use Rattle.flat.specs.Input.{blockIn, recordIn}
 use Rattle.flat.proofs.Back.{is-selected, is-32}
 use Rattle.flat.specs.declared.types.FlatSuperframe.{FlatSuperframe}

@@ -1,8 +1,7 @@
 -- `measure::ready_len` meets its contract: a number that is not 0 is answered only where every test was passed.
 -- Assumes nothing.
-use mathlib.Core.Path.{refl, ap, _∙_}
+use mathlib.Core.Path.{refl, ap}
 use Prim.Native.Nat.{ℕ, _+_}
-use native.Mathlib.Omega.{arith}
 use lib.ListN.{length}
 use denote.Ref.{now}
 use Rattle.s2xv2.specs.Encode.{encodedLength}

@@ -1,11 +1,8 @@
 -- `reader::parse` meets its contract: the numbers of the reading mean its answer, and what crossed out comes in again.
 -- Assumes nothing.
-use mathlib.Core.Path.{_≡_, ap, _∙_}
+use mathlib.Core.Path.{ap}
 use denote.Ref.{now}
 use Rattle.flat.specs.declared.types.FlatParsed.{FlatParsed}
-use Rattle.flat.specs.Input.{recordIn}
-use Rattle.s2xv2.specs.Answer.{told}
-use Rattle.reader.specs.Seen.{answerIn}
 use Rattle.flat.proofs.Back.{back}
 use Rattle.reader.proofs.Flat.{told-in}
 use borrow.Author.Needs.{needs}

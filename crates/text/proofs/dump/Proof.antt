@@ -1,8 +1,8 @@
 -- `text::dump` meets its contract: the test picks the case, and a buffer with the room holds the longest text.
 -- Assumes nothing.
-use Prim.Native.Nat.{ℕ, _≤_}
-use mathlib.Core.Path.{_≡_, ap}
-use mathlib.Core.List.{List, [], _∷_}
+use Prim.Native.Nat.{_≤_}
+use mathlib.Core.Path.{ap}
+use mathlib.Core.List.{[], _∷_}
 use native.Mathlib.Omega.{arith}
 use borrow.Author.Needs.{needs}
 use borrow.Author.Tests.{lt-ltb, le-ltb}

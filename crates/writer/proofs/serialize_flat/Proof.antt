@@ -1,7 +1,6 @@
 -- `writer::serialize_flat` meets its contract: what is accepted is stored, and what is refused leaves the buffer.
 -- Assumes nothing.
-use mathlib.Core.Path.{_≡_, sym, ap, _∙_}
-use Prim.Native.Nat.{ℕ}
+use mathlib.Core.Path.{sym, ap, _∙_}
 use lib.ListN.{length}
 use denote.Ref.{now}
 use Rattle.s2xv2.specs.ListB.{listB, unwritable}

@@ -3,10 +3,6 @@
 use borrow.Author.Needs.{needs}
 use Rattle.flat.proofs.input.core_in.Statement.{statement}
 use Rattle.flat.proofs.input.core_in.Tie as tie
-use Rattle.flat.proofs.input.bool_in.Reads as bool-in-reads
-use Rattle.flat.proofs.input.is_one.Reads as is-one-reads
-use Rattle.flat.proofs.input.mode_in.Reads as mode-in-reads
-use Rattle.s2xv2.proofs.record.S2Xv2SatelliteDeliverySystem.default.Reads as default-reads
 
 mode-in-requires : tie.Need-mode-in-requires
 mode-in-requires c κs = search needs

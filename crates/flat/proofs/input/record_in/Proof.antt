@@ -3,10 +3,6 @@
 use borrow.Author.Needs.{needs}
 use Rattle.flat.proofs.input.record_in.Statement.{statement}
 use Rattle.flat.proofs.input.record_in.Tie as tie
-use Rattle.flat.proofs.input.core_in.Reads as core-in-reads
-use Rattle.flat.proofs.input.superframe_in.Reads as superframe-in-reads
-use Rattle.flat.proofs.input.u32_in.Reads as u32-in-reads
-use Rattle.flat.proofs.input.u8_in.Reads as u8-in-reads
 
 u8-in-requires : tie.Need-u8-in-requires
 u8-in-requires c κs = search needs

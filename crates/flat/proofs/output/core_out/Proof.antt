@@ -4,11 +4,6 @@ use Rattle.s2xv2.specs.Default.{defaultRecord}
 use borrow.Author.Needs.{needs}
 use Rattle.flat.proofs.output.core_out.Statement.{statement}
 use Rattle.flat.proofs.output.core_out.Tie as tie
-use Rattle.flat.proofs.output.has_bool.Reads as has-bool-reads
-use Rattle.flat.proofs.output.is_reserved.Reads as is-reserved-reads
-use Rattle.s2xv2.proofs.mode.S2Xv2Mode.to_u8.Reads as to-u8-reads
-use Rattle.s2xv2.proofs.option.OptionBool.is_set.Reads as is-set-reads
-use Rattle.wire.proofs.field.bit_of.Reads as bit-of-reads
 
 is-reserved-requires : tie.Need-is-reserved-requires
 is-reserved-requires c κs = search needs

@@ -3,13 +3,6 @@
 use borrow.Author.Needs.{needs}
 use Rattle.flat.proofs.output.record_out.Statement.{statement}
 use Rattle.flat.proofs.output.record_out.Tie as tie
-use Rattle.flat.proofs.output.core_out.Reads as core-out-reads
-use Rattle.flat.proofs.output.has_superframe.Reads as has-superframe-reads
-use Rattle.flat.proofs.output.has_u32.Reads as has-u32-reads
-use Rattle.flat.proofs.output.has_u8.Reads as has-u8-reads
-use Rattle.flat.proofs.output.superframe_out.Reads as superframe-out-reads
-use Rattle.s2xv2.proofs.option.OptionU32.or_zero.Reads as option-OptionU32-or-zero-reads
-use Rattle.s2xv2.proofs.option.OptionU8.or_zero.Reads as option-OptionU8-or-zero-reads
 
 or-zero-requires : tie.Need-or-zero-requires
 or-zero-requires c κs = search needs

@@ -3,7 +3,6 @@
 use borrow.Author.Needs.{needs}
 use Rattle.flat.proofs.output.superframe_out.Statement.{statement}
 use Rattle.flat.proofs.output.superframe_out.Tie as tie
-use Rattle.flat.proofs.output.block_out.Reads as block-out-reads
 
 enum-known-superframe : tie.Need-enum-known-superframe
 enum-known-superframe c = search needs

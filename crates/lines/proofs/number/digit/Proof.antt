@@ -6,9 +6,6 @@ use Rattle.lines.specs.Number.{digitOf}
 use Rattle.lines.proofs.Laws.{nothing}
 use Rattle.lines.proofs.number.digit.Statement.{statement}
 use Rattle.lines.proofs.number.digit.Tie as tie
-use Rattle.lines.proofs.number.digit.Reads as reads
-use Rattle.lines.proofs.number.digit.Lts as lts
-use Rattle.lines.proofs.put.put.Reads as put-reads
 
 div-put : tie.Need-div-put
 div-put c = search needs

@@ -10,9 +10,6 @@ use Rattle.lines.specs.Out.{_from_, write}
 use Rattle.lines.proofs.Laws.{write-append}
 use Rattle.lines.proofs.put.copy.Statement.{statement}
 use Rattle.lines.proofs.put.copy.Tie as tie
-use Rattle.lines.proofs.put.copy.Reads as reads
-use Rattle.lines.proofs.put.copy.Lts as lts
-use Rattle.lines.proofs.put.put.Reads as put-reads
 
 abbrev Inv-loop : tie.InvT-loop
 Inv-loop out₀ at text next₀ i₀ out next i = (i ≤ length text) × (length out ≡ length out₀) × (out from next ≡ write (out₀ from at) (take i text))

@@ -1,7 +1,9 @@
--- `measure::checks::core_fits` meets its contract: the tests that failed bound the numbers.
+-- `measure::checks::core_fits` meets its contract: the tests that hold bound the numbers.
 -- Assumes nothing.
+use mathlib.Core.List.{[], _∷_}
+use lib.Dec.{ltb}
 use borrow.Author.Tests.{ltb-true}
-use Rattle.measure.proofs.Flags.{never, four-joined}
+use Rattle.measure.proofs.Flags.{all-hold, four-joined}
 use borrow.Author.Needs.{needs}
 use Rattle.measure.proofs.checks.core_fits.Statement.{statement}
 use Rattle.measure.proofs.checks.core_fits.Tie as tie
@@ -19,47 +21,9 @@ joined-requires-3 : tie.Need-joined-requires-3
 joined-requires-3 c κs = search needs
 
 returns : tie.Need-returns
-returns c = λ e. never e
-
-returns-2 : tie.Need-returns-2
-returns-2 c = λ e. never e
-
-returns-3 : tie.Need-returns-3
-returns-3 c = λ e. never e
-
-returns-4 : tie.Need-returns-4
-returns-4 c = λ e. never e
-
-returns-5 : tie.Need-returns-5
-returns-5 c = λ e. never e
-
-returns-6 : tie.Need-returns-6
-returns-6 c =
-    let r = c .before .before .before .before .before .before .before .before .before .before .before .before .before .args .c in
-    let q = four-joined (r .«reserved_zero_future_use_2») (r .«channel_bond») (r .polarization) (r .«ts_gs_s2x_mode») _ _ _ (c .before .before .before .before .before .before .before .before .before .before .before .before .joined .ensures) (c .before .before .before .before .before .before .before .before .before .before .before .joined2 .ensures) (c .before .before .before .before .before .before .before .before .before .joined3 .ensures) (c .before .before .before .before .before .before .before .before .if1 .left) in
-    λ e. record {
-      mode = c .before .before .before .before .before .before .if2 .left;
-      roll = c .before .before .before .before .if3 .left;
-      reserved = q .0;
-      bond = q .1;
-      polarization = q .2;
-      top = rw (c .before .before .before .before .before .before .before .before .before .before .picked .ensures) at (c .before .if5 .left);
-      tsgs = q .3;
-      profiles = c .before .before .if4 .left;
-      satellite = ltb-true _ _ e;
-    }
+returns c = λ e. let r = c .before .before .before .before .before .before .before .before .args .c in let k = all-hold (ltb (c .before .before .before .before .joined3 .result) 4) (ltb (r .«s2xv2_mode») 16 ∷ ltb (r .«roll_off») 8 ∷ ltb (r .«receiver_profiles») 32 ∷ ltb (c .before .before .before .before .before .picked .result) 2 ∷ ltb (r .«satellite_id») 16777216 ∷ []) e in let q = four-joined (r .«reserved_zero_future_use_2») (r .«channel_bond») (r .polarization) (r .«ts_gs_s2x_mode») _ _ _ (c .before .before .before .before .before .before .before .joined .ensures) (c .before .before .before .before .before .before .joined2 .ensures) (c .before .before .before .before .joined3 .ensures) (ltb-true _ _ (k .0)) in record { mode = ltb-true _ _ (k .1 .0); roll = ltb-true _ _ (k .1 .1 .0); reserved = q .0; bond = q .1; polarization = q .2; top = rw (c .before .before .before .before .before .picked .ensures) at (ltb-true (c .before .before .before .before .before .picked .result) 2 (k .1 .1 .1 .1 .0)); tsgs = q .3; profiles = ltb-true _ _ (k .1 .1 .1 .0); satellite = ltb-true _ _ (k .1 .1 .1 .1 .1 .0) }
 
 pub core-fits-spec : {M : Type 1} → statement M
 core-fits-spec =
     tie.close
-    (tie.spec
-    joined-requires
-    joined-requires-2
-    picked-requires
-    joined-requires-3
-    returns
-    returns-2
-    returns-3
-    returns-4
-    returns-5
-    returns-6)
+    (tie.spec joined-requires joined-requires-2 picked-requires joined-requires-3 returns)

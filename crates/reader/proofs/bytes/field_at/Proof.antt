@@ -3,8 +3,6 @@
 use borrow.Author.Needs.{needs}
 use Rattle.reader.proofs.bytes.field_at.Statement.{statement}
 use Rattle.reader.proofs.bytes.field_at.Tie as tie
-use Rattle.reader.proofs.bytes.byte.Reads as byte-reads
-use Rattle.wire.proofs.field.field.Reads as field-reads
 
 byte-requires : tie.Need-byte-requires
 byte-requires c κs = search needs

@@ -7,15 +7,6 @@ use Rattle.reader.proofs.Flat.{flat-core}
 use borrow.Author.Needs.{needs}
 use Rattle.reader.proofs.record.core_at.Statement.{statement}
 use Rattle.reader.proofs.record.core_at.Tie as tie
-use Rattle.flat.proofs.output.is_reserved.Reads as is-reserved-reads
-use Rattle.reader.proofs.bytes.be24.Reads as be24-reads
-use Rattle.reader.proofs.bytes.be32.Reads as be32-reads
-use Rattle.reader.proofs.bytes.byte.Reads as byte-reads
-use Rattle.reader.proofs.bytes.field_at.Reads as field-at-reads
-use Rattle.s2xv2.proofs.mode.S2Xv2Mode.from_u8.Reads as from-u8-reads
-use Rattle.s2xv2.proofs.mode.S2Xv2Mode.has_scrambling_selector.Reads as has-scrambling-selector-reads
-use Rattle.wire.proofs.field.bit_of.Reads as bit-of-reads
-use Rattle.wire.proofs.field.flag.Reads as flag-reads
 
 field-at-requires : tie.Need-field-at-requires
 field-at-requires c κs = search needs

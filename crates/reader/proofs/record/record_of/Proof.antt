@@ -6,11 +6,6 @@ use Rattle.reader.proofs.Flat.{flat-record}
 use borrow.Author.Needs.{needs}
 use Rattle.reader.proofs.record.record_of.Statement.{statement}
 use Rattle.reader.proofs.record.record_of.Tie as tie
-use Rattle.reader.proofs.parts.bonds_at.Reads as bonds-at-reads
-use Rattle.reader.proofs.parts.byte_at.Reads as byte-at-reads
-use Rattle.reader.proofs.parts.scrambling_at.Reads as scrambling-at-reads
-use Rattle.reader.proofs.record.core_at.Reads as core-at-reads
-use Rattle.wire.proofs.field.bit_of.Reads as bit-of-reads
 
 scrambling-at-requires : tie.Need-scrambling-at-requires
 scrambling-at-requires c κs = search needs

@@ -17,7 +17,6 @@ use Rattle.flat.specs.Input.{blockIn}
 use Rattle.flat.specs.declared.types.FlatSuperframe.{FlatSuperframe}
 use Rattle.writer.specs.Bytes.{blockBytes}
 use Rattle.s2xv2.proofs.Whole.{whole-plan}
-use Rattle.s2xv2.proofs.Lists.{narrow}
 use Rattle.writer.proofs.Laws.{length-alone, alone-append, plan-same}
 use borrow.Author.Needs.{needs}
 use Rattle.writer.proofs.parts.put_block.Statement.{statement}
