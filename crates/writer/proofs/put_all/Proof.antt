@@ -13,7 +13,8 @@ use Rattle.wire.proofs.Stores.{run, stored-front}
 use Rattle.s2xv2.specs.Encode.{streamOf, scramblingOf, timesliceOf, bondOf, superframeOf, encode, encodedLength}
 use Rattle.s2xv2.proofs.Whole.{whole-byte, whole-scrambling, whole-bond, whole-superframe, encode-length}
 use Rattle.flat.specs.Input.{recordIn}
-use Rattle.writer.proofs.Laws.{length-alone, encode-parts, parts-split, clear-parts, scrambling-same, scrambling-narrow, bonds-same}
+use Rattle.s2xv2.proofs.Whole.{parts-split}
+use Rattle.writer.proofs.Laws.{length-alone, encode-parts, clear-parts, scrambling-same, scrambling-narrow, bonds-same}
 use borrow.Author.Needs.{needs}
 use Rattle.writer.proofs.put_all.Statement.{statement}
 use Rattle.writer.proofs.put_all.Tie as tie
