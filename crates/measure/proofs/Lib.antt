@@ -1,3 +1,4 @@
 pub mod Flags
 pub mod Checked
+pub mod Accepted
 pub mod Equal

@@ -1,16 +1,9 @@
--- `measure::write_answer` meets its contract: a record that crosses out is the same record, and what nothing refuses is accepted with its length.
+-- `measure::write_answer` meets its contract: a record that crosses out is the same record.
 -- Assumes nothing.
-use mathlib.Core.Path.{sym, ap, _∙_}
-use mathlib.Core.List.{[], _∷_}
-use Prim.Native.Nat.{ℕ}
-use native.Mathlib.Omega.{arith}
+use mathlib.Core.Path.{ap, _∙_}
 use denote.Ref.{now}
 use Rattle.s2xv2.specs.Write.{writeTold}
-use Rattle.s2xv2.specs.ListA.{inconsistency, listA}
-use Rattle.s2xv2.specs.ListB.{listB, unwritable}
 use Rattle.s2xv2.specs.declared.record.S2Xv2SatelliteDeliverySystem.{S2Xv2SatelliteDeliverySystem}
-use Rattle.s2xv2.proofs.Lists.{clear-first}
-use Rattle.s2xv2.proofs.Written.{told-written}
 use Rattle.flat.specs.Input.{recordIn}
 use Rattle.flat.proofs.Back.{back, out-valid}
 use Rattle.measure.proofs.Flags.{flagged}
@@ -21,30 +14,11 @@ use Rattle.measure.proofs.write_answer.Tie as tie
 record-out-requires : tie.Need-record-out-requires
 record-out-requires c κs = search needs
 
-ready-len-requires : tie.Need-ready-len-requires
-ready-len-requires c κs = rw (c .record-out .ensures) (flagged _ (out-valid (c .before .before .args .r)))
-
-judged-requires : tie.Need-judged-requires
-judged-requires c κs = rw (c .before .before .record-out .ensures) (flagged _ (out-valid (c .before .before .before .before .args .r)))
+answered-requires : tie.Need-answered-requires
+answered-requires c κs = rw (c .record-out .ensures) (flagged _ (out-valid (c .before .before .args .r)))
 
 returns : tie.Need-returns
-returns c =
-    let a = c .before .before .before .before .before .args in
-    let t = now (a .reserved-tail) in
-    let i = ap recordIn (c .before .before .before .record-out .ensures) ∙ back (a .r) in
-    c .judged .ensures ∙ ap (λ (r : S2Xv2SatelliteDeliverySystem). writeTold r t (a .room)) i
-
-returns-2 : tie.Need-returns-2
-unfolding inconsistency unwritable
-returns-2 c =
-    let a = c .before .before .before .before .args in
-    let t = now (a .reserved-tail) in
-    let i = ap recordIn (c .before .before .record-out .ensures) ∙ back (a .r) in
-    let k = c .before .ready-len .ensures (c .if1 .left) in
-    let r = recordIn (c .before .before .record-out .result) in
-    let e = told-written r t (clear-first 1 (listA r) (k .lists .consistent)) (omega (arith, k .size, k .within)) (a .room) (omega (arith, k .size, k .fits)) (clear-first 1 (listB r) (k .lists .carried)) in
-    ap (λ (n : ℕ). 0 ∷ n ∷ []) (k .size) ∙ sym e ∙ ap (λ (r : S2Xv2SatelliteDeliverySystem). writeTold r t (a .room)) i
+returns c = let a = c .before .before .before .args in c .answered .ensures ∙ ap (λ (r : S2Xv2SatelliteDeliverySystem). writeTold r (now (a .reserved-tail)) (a .room)) (ap recordIn (c .before .record-out .ensures) ∙ back (a .r))
 
 pub write-answer-spec : {M : Type 1} → statement M
-write-answer-spec =
-    tie.close (tie.spec record-out-requires ready-len-requires judged-requires returns returns-2)
+write-answer-spec = tie.close (tie.spec record-out-requires answered-requires returns)
