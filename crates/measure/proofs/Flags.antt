@@ -2,6 +2,7 @@
 -- Assumes nothing.
 use mathlib.Core.Path.{_≡_, refl, sym, ap, ap₂, _∙_}
 use mathlib.Core.Bool.{Bool, true, false}
+use mathlib.Core.Logic.{_⊎_, ⊎-elim}
 use mathlib.Core.List.{List, [], _∷_, _++_}
 use Prim.Native.Nat.{ℕ, zero, suc, _+_, _*_, _<_}
 use native.Mathlib.Omega.{arith}
@@ -61,20 +62,9 @@ pub both-right : (a b : Bool) → and a b ≡ true → b ≡ true
 both-right true b e = e
 both-right false b e = never e
 
--- tests in a row, each joined to those before it
-abbrev joinedTests : Bool → List Bool → Bool
-joinedTests t [] = t
-joinedTests t (u ∷ us) = joinedTests (and t u) us
-
-abbrev AllHold : List Bool → Type 0
-AllHold [] = Unit
-AllHold (t ∷ ts) = (t ≡ true) × AllHold ts
-
-pub all-hold : (t : Bool) (ts : List Bool) → joinedTests t ts ≡ true → (t ≡ true) × AllHold ts
-all-hold t [] e = (e, tt)
-all-hold t (u ∷ us) e =
-    let k = all-hold (and t u) us e in
-    (both-left t u (k .0), (both-right t u (k .0), k .1))
+-- of two ways, the one on which a test that holds can have held
+pub on-the-way : {W L : Type 0} {b : Bool} → W ⊎ L → (L → b ≡ false) → b ≡ true → W
+on-the-way c f e = ⊎-elim (λ w. w) (λ l. never (sym (f l) ∙ e)) c
 
 four-below : (n a b d e : ℕ) → and (and (ltb a n) (ltb b n)) (and (ltb d n) (ltb e n)) ≡ true → (a < n) × (b < n) × (d < n) × (e < n)
 four-below n a b d e h =

@@ -49,9 +49,9 @@ fn agrees(c: FlatRecord) -> bool
         c.has_superframe,
         c.mode_is_reserved,
     );
-    (c.has_input_stream_identifier == c.multiple_input_stream_flag)
-        & (parts == due(c.s2xv2_mode))
-        & (c.has_scrambling_sequence_index == scrambled)
+    c.has_input_stream_identifier == c.multiple_input_stream_flag
+        && parts == due(c.s2xv2_mode)
+        && c.has_scrambling_sequence_index == scrambled
 }
 
 // The wire can carry the core.
@@ -65,12 +65,12 @@ fn core_fits(c: FlatRecord) -> bool
         0,
         c.reserved_zero_future_use_1,
     );
-    (joined(first, second) < 4)
-        & (c.s2xv2_mode < 16)
-        & (c.roll_off < 8)
-        & (c.receiver_profiles < 32)
-        & (top < 2)
-        & (c.satellite_id < 16777216)
+    joined(first, second) < 4
+        && c.s2xv2_mode < 16
+        && c.roll_off < 8
+        && c.receiver_profiles < 32
+        && top < 2
+        && c.satellite_id < 16777216
 }
 
 // The wire can carry the scrambling index, where it is there.
@@ -78,7 +78,7 @@ fn scrambling_fits(there: u8, index: u32, reserved: u8) -> bool
     ensures { λ r. ⌜ (r ≡ true → ScramblingFits there index reserved) ⌝ }
 {
     if there == 1 {
-        (index < 262144) & (reserved < 64)
+        index < 262144 && reserved < 64
     } else {
         true
     }
@@ -89,7 +89,7 @@ fn bonds_fit(bond: u8, count: u8, reserved: u8) -> bool
     ensures { λ r. ⌜ (r ≡ true → BondsFit bond count reserved) ⌝ }
 {
     if bond == 1 {
-        (less_one(count) < 2) & (reserved < 128)
+        less_one(count) < 2 && reserved < 128
     } else {
         count == 0
     }
@@ -100,14 +100,14 @@ fn block_fits(f: FlatSuperframe) -> bool
     ensures { λ r. ⌜ (r ≡ true → BlockFits f) ⌝ }
 {
     let nibble = picked(f.sffi_selector, f.sffi, f.reserved_zero_future_use_4);
-    (f.reference_scrambling_index < 1048576)
-        & (f.payload_scrambling_index < 1048576)
-        & (f.reserved_zero_future_use_2 < 4)
-        & (f.has_sffi == f.sffi_selector)
-        & (nibble < 16)
-        & (f.has_beamhopping_time_plan_id == f.beam_hopping_time_plan_selector)
-        & (f.superframe_pilots_wh_sequence_number < 32)
-        & (f.postamble_pli < 8)
+    f.reference_scrambling_index < 1048576
+        && f.payload_scrambling_index < 1048576
+        && f.reserved_zero_future_use_2 < 4
+        && f.has_sffi == f.sffi_selector
+        && nibble < 16
+        && f.has_beamhopping_time_plan_id == f.beam_hopping_time_plan_selector
+        && f.superframe_pilots_wh_sequence_number < 32
+        && f.postamble_pli < 8
 }
 
 // The same of a block that may be absent.
@@ -133,5 +133,5 @@ pub(crate) fn is_checked(c: FlatRecord) -> bool
         c.num_channel_bonds,
         c.reserved_zero_future_use_7,
     );
-    agrees(c) & core_fits(c) & scrambling & bonds & superframe_fits(c.has_superframe, block)
+    agrees(c) && core_fits(c) && scrambling && bonds && superframe_fits(c.has_superframe, block)
 }

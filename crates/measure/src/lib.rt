@@ -11,6 +11,7 @@ ghost use Rattle.measure.specs.Checks.{Ready};
 use crate::checks::is_checked;
 use flat::input::is_valid;
 use flat::input::record_in;
+use flat::output::answer_of;
 use flat::output::answer_out;
 use flat::output::foreign;
 use flat::output::record_out;
@@ -83,38 +84,18 @@ fn ready_len(c: FlatRecord, tail: &[u8], room: usize) -> usize
     }
 }
 
-// `serialized_len` of a record as numbers: one that passes every test is asked no more.
-fn measured(c: FlatRecord, tail: &[u8]) -> Answer
-    requires { ⌜ Flagged c ⌝ }
-    ensures { λ a. ⌜ told a ≡ lengthTold (recordIn c) (now (tail .entry)) ⌝ }
-{
-    let need = ready_len(c, tail, 4096);
-    if need == 0 {
-        judged_len(c, tail)
-    } else {
-        Answer::Accepted(need)
-    }
-}
-
-// `write_answer` of a record as numbers, in the same way.
-fn answered(c: FlatRecord, tail: &[u8], room: usize) -> Answer
-    requires { ⌜ Flagged c ⌝ }
-    ensures { λ a. ⌜ told a ≡ writeTold (recordIn c) (now (tail .entry)) room ⌝ }
-{
-    let need = ready_len(c, tail, room);
-    if need == 0 {
-        judged(c, tail, room)
-    } else {
-        Answer::Accepted(need)
-    }
-}
-
 // The number of bytes that the record takes with a tail. Refuses a record that contradicts itself, and one whose encoding would
 // have more than 4,096 bytes; it does not ask whether the wire can carry the record's values.
 pub fn serialized_len(r: S2Xv2SatelliteDeliverySystem, reserved_tail: &[u8]) -> Answer
     ensures { λ a. ⌜ told a ≡ lengthTold r (now («reserved_tail» .entry)) ⌝ }
 {
-    measured(record_out(r), reserved_tail)
+    let c = record_out(r);
+    let need = ready_len(c, reserved_tail, 4096);
+    if need == 0 {
+        judged_len(c, reserved_tail)
+    } else {
+        Answer::Accepted(need)
+    }
 }
 
 // What the writer answers for the record, its tail and a buffer of `room` bytes. Refuses what `serialized_len` refuses, then a
@@ -122,7 +103,13 @@ pub fn serialized_len(r: S2Xv2SatelliteDeliverySystem, reserved_tail: &[u8]) -> 
 pub fn write_answer(r: S2Xv2SatelliteDeliverySystem, reserved_tail: &[u8], room: usize) -> Answer
     ensures { λ a. ⌜ told a ≡ writeTold r (now («reserved_tail» .entry)) room ⌝ }
 {
-    answered(record_out(r), reserved_tail, room)
+    let c = record_out(r);
+    let need = ready_len(c, reserved_tail, room);
+    if need == 0 {
+        judged(c, reserved_tail, room)
+    } else {
+        Answer::Accepted(need)
+    }
 }
 
 // `serialized_len` of a record as numbers. Refuses with 100 what no record could hold.
@@ -130,7 +117,12 @@ pub fn serialized_len_flat(c: FlatRecord, reserved_tail: &[u8]) -> FlatAnswer
     ensures { λ a. ⌜ a ≡ when (valid c) (answerOut (lengthTold (recordIn c) (now («reserved_tail» .entry)))) foreign ⌝ }
 {
     if is_valid(c) {
-        answer_out(measured(c, reserved_tail))
+        let need = ready_len(c, reserved_tail, 4096);
+        if need == 0 {
+            answer_out(judged_len(c, reserved_tail))
+        } else {
+            answer_of(0, need, 0, 0)
+        }
     } else {
         foreign()
     }
@@ -141,7 +133,12 @@ pub fn write_answer_flat(c: FlatRecord, reserved_tail: &[u8], room: usize) -> Fl
     ensures { λ a. ⌜ a ≡ when (valid c) (answerOut (writeTold (recordIn c) (now («reserved_tail» .entry)) room)) foreign ⌝ }
 {
     if is_valid(c) {
-        answer_out(answered(c, reserved_tail, room))
+        let need = ready_len(c, reserved_tail, room);
+        if need == 0 {
+            answer_out(judged(c, reserved_tail, room))
+        } else {
+            answer_of(0, need, 0, 0)
+        }
     } else {
         foreign()
     }

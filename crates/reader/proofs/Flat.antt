@@ -1,28 +1,28 @@
--- What the code gives is what crosses: of the superframe block (`flat-block`), of bytes 4 to 6 (`flat-head`), and of the record (`flat-record`); and the numbers of a reading mean its answer (`told-in`).
+-- What the code gives is what crosses: of the superframe block (`flat-block`), of the core (`flat-core`), and of the record (`flat-record`); and the numbers of a reading mean its answer (`told-in`).
 -- Assumes nothing.
 use mathlib.Core.Path.{_≡_, refl, ap}
 use mathlib.Core.Bool.{Bool, true, false}
 use mathlib.Core.List.{List, [], _∷_}
-use Prim.Native.Nat.{ℕ, _/_, _%_, _≤_, _<_}
+use Prim.Native.Nat.{ℕ, _%_, _≤_}
 use native.Mathlib.Omega.{arith}
 use borrow.Author.Tests.{ltb-false}
-use lib.ListN.{length, getD}
+use lib.ListN.{length}
 use lib.Dec.{ltb}
 use Rattle.wire.specs.Flags.{bit, isOne, when, and, not}
 use Rattle.s2xv2.specs.Default.{defaultRecord}
 use Rattle.s2xv2.specs.Answer.{saturated, told}
-use Rattle.s2xv2.specs.Read.{Need, needs, presentIn, bodySize, shortTold, readTold, superframeAt, hasSecond, hasPlan, recordAt}
+use Rattle.s2xv2.specs.Read.{Need, needs, presentIn, bodySize, shortTold, readTold, superframeAt, hasSecond, hasPlan, recordAt, recordIn}
 use Rattle.s2xv2.specs.declared.superframe.OptionSuperframe.the-variants as OS
 use Rattle.layout.specs.Layout.{asked}
 use Rattle.layout.specs.declared.present.Present.{Present}
 use Rattle.layout.specs.declared.ends.Ends.{Ends}
 use Rattle.s2xv2.proofs.Back.{bit-of}
 use Rattle.s2xv2.proofs.Modes.{code-mode}
+use Rattle.flat.specs.Core.{coreOf}
 use Rattle.flat.specs.Output.{answerOut, superframeOut, recordOut}
 use Rattle.flat.proofs.Back.{is-bool, is-selected, is-8, is-32, is-superframe}
-use Rattle.reader.specs.Parts.{headIn}
 use Rattle.reader.specs.Seen.{answerIn}
-use Rattle.reader.proofs.Numbers.{flatBlockAt, flatHead, flatRecordAt}
+use Rattle.reader.proofs.Numbers.{flatBlockAt, flatCoreAt, flatRecordAt}
 
 -- a bit is itself, taken for a flag
 bit-mod : (x : ℕ) → bit (isOne (x % 2)) ≡ x % 2
@@ -37,18 +37,12 @@ pub flat-block : (s : List ℕ) (p : ℕ) (plan : Bool) → flatBlockAt s p plan
 unfolding flatBlockAt superframeAt
 flat-block s p plan = simp (is-8, is-32)
 
-pub flat-head : (b4 b5 b6 : ℕ) → b4 < 256 → b5 < 256 → b6 < 256 → flatHead b4 b5 b6 ≡ recordOut (headIn b4 b5 b6)
-unfolding flatHead recordAt defaultRecord
-flat-head b4 b5 b6 h k l =
-    let m : b4 / 16 % 16 ≡ b4 / 16 = omega arith in
-    let r : b5 / 64 % 4 ≡ b5 / 64 = omega arith in
-    let x : b4 / 1 % 8 ≡ b4 % 8 = omega arith in
-    let y : b5 / 1 % 4 ≡ b5 % 4 = omega arith in
-    let z : b6 / 1 % 32 ≡ b6 % 32 = omega arith in
-    simp (m, r, x, y, z, code-mode, is-bool, is-selected, bit-mod, top-clear)
+pub flat-core : (s : List ℕ) → flatCoreAt s ≡ recordOut (coreOf (recordIn s))
+unfolding flatCoreAt recordAt defaultRecord
+flat-core s = simp (code-mode, is-bool, is-selected, bit-mod, top-clear)
 
 pub flat-record : (s : List ℕ) (k : Present) (e : Ends) → e .second ≡ hasSecond s (e .timeslice) → e .plan ≡ hasPlan s (e .bond)
-    → flatRecordAt (recordOut (headIn (getD s 4 0) (getD s 5 0) (getD s 6 0))) s k e ≡ recordOut (recordAt s (asked k) (e .stream) (e .scrambling) (e .timeslice) (e .bond))
+    → flatRecordAt (recordOut (coreOf (recordIn s))) s k e ≡ recordOut (recordAt s (asked k) (e .stream) (e .scrambling) (e .timeslice) (e .bond))
 unfolding flatRecordAt recordAt
 flat-record s k e d p = simp (d, p, is-8, is-32, is-superframe)
 

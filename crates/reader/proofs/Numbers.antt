@@ -1,11 +1,10 @@
--- What a body holds, as the plain numbers that the code gives: `flatBlockAt` a superframe block, `flatHead` bytes 4 to 6, `flatRecordAt` the record. `Flat.antt` shows that they are what crosses of
+-- What a body holds, as the plain numbers that the code gives: `flatBlockAt` a superframe block, `flatCoreAt` the core, `flatRecordAt` the record. `Flat.antt` shows that they are what crosses of
 -- `superframeAt` and `recordAt`.
 -- Assumes nothing.
-use Prim.Native.Nat.{ℕ, _+_, _/_, _%_}
+use Prim.Native.Nat.{ℕ, _+_}
 use mathlib.Core.List.{List, [], _∷_, _++_}
 use mathlib.Core.Bool.{Bool}
 use Rattle.wire.specs.Flags.{bit, isOne, when, and, not}
-use Rattle.wire.specs.Bits.{bits}
 use Rattle.wire.specs.Widths.{size, cut, give}
 use Rattle.s2xv2.specs.Table144b as T
 use Rattle.s2xv2.specs.Table144c.{modeOf, hasSelector}
@@ -36,47 +35,48 @@ flatBlockAt s p plan =
       «postamble_pli» = pli;
     }) (cut s (p + when plan (size (T.superframe ++ T.plan)) (size T.superframe)) T.superframeEnd)) (cut s p T.superframe)
 
-unfoldable pub flatHead : ℕ → ℕ → ℕ → FlatRecord
-flatHead b4 b5 b6 = record {
-  «delivery_system_id» = 0;
-  «satellite_id» = 0;
-  frequency = 0;
-  «symbol_rate» = 0;
-  «scrambling_sequence_index» = 0;
-  «secondary_delivery_system_ids» = 0 ∷ 0 ∷ [];
-  superframe = superframeOut OS.None;
-  «mode_is_reserved» = isReserved (modeOf (b4 / 16));
-  «s2xv2_mode» = b4 / 16;
-  «multiple_input_stream_flag» = b4 / 8 % 2;
-  «roll_off» = b4 % 8;
-  «reserved_zero_future_use_2» = b5 / 64;
-  «ncr_reference» = b5 / 32 % 2;
-  «ncr_version» = b5 / 16 % 2;
-  «channel_bond» = b5 / 4 % 4;
-  polarization = b5 % 4;
-  «has_scrambling_sequence_selector» = bit (hasSelector (modeOf (b4 / 16)));
-  «scrambling_sequence_selector» = bit (and (hasSelector (modeOf (b4 / 16))) (isOne (b6 / 128 % 2)));
-  «reserved_zero_future_use_1» = bit (and (not (hasSelector (modeOf (b4 / 16)))) (isOne (b6 / 128 % 2)));
-  «ts_gs_s2x_mode» = b6 / 32 % 4;
-  «receiver_profiles» = b6 % 32;
-  «has_input_stream_identifier» = 0;
-  «input_stream_identifier» = 0;
-  «reserved_zero_future_use_6» = 0;
-  «has_scrambling_sequence_index» = 0;
-  «has_timeslice_number» = 0;
-  «timeslice_number» = 0;
-  «reserved_zero_future_use_7» = 0;
-  «num_channel_bonds» = 0;
-  «has_superframe» = 0;
-}
+unfoldable pub flatCoreAt : List ℕ → FlatRecord
+flatCoreAt s =
+    give T.core (λ id mode flag rollOff reserved2 reference version bond polarization top tsgs profiles satellite frequency rate. record {
+      «delivery_system_id» = id;
+      «satellite_id» = satellite;
+      frequency = frequency;
+      «symbol_rate» = rate;
+      «scrambling_sequence_index» = 0;
+      «secondary_delivery_system_ids» = 0 ∷ 0 ∷ [];
+      superframe = superframeOut OS.None;
+      «mode_is_reserved» = isReserved (modeOf mode);
+      «s2xv2_mode» = mode;
+      «multiple_input_stream_flag» = flag;
+      «roll_off» = rollOff;
+      «reserved_zero_future_use_2» = reserved2;
+      «ncr_reference» = reference;
+      «ncr_version» = version;
+      «channel_bond» = bond;
+      polarization = polarization;
+      «has_scrambling_sequence_selector» = bit (hasSelector (modeOf mode));
+      «scrambling_sequence_selector» = bit (and (hasSelector (modeOf mode)) (isOne top));
+      «reserved_zero_future_use_1» = bit (and (not (hasSelector (modeOf mode))) (isOne top));
+      «ts_gs_s2x_mode» = tsgs;
+      «receiver_profiles» = profiles;
+      «has_input_stream_identifier» = 0;
+      «input_stream_identifier» = 0;
+      «reserved_zero_future_use_6» = 0;
+      «has_scrambling_sequence_index» = 0;
+      «has_timeslice_number» = 0;
+      «timeslice_number» = 0;
+      «reserved_zero_future_use_7» = 0;
+      «num_channel_bonds» = 0;
+      «has_superframe» = 0;
+    }) (cut s 0 T.core)
 
--- of what its head says
+-- of a core
 unfoldable pub flatRecordAt : FlatRecord → List ℕ → Present → Ends → FlatRecord
 flatRecordAt c s k e = record {
-  «delivery_system_id» = bits s 0 0 32;
-  «satellite_id» = bits s 7 0 24;
-  frequency = bits s 10 0 32;
-  «symbol_rate» = bits s 14 0 32;
+  «delivery_system_id» = c .«delivery_system_id»;
+  «satellite_id» = c .«satellite_id»;
+  frequency = c .frequency;
+  «symbol_rate» = c .«symbol_rate»;
   «scrambling_sequence_index» = orZero32 (indexAt s (e .stream) (k .scrambling));
   «secondary_delivery_system_ids» = firstIdAt s (e .timeslice) (k .bond) ∷ secondIdAt s (e .timeslice) (k .bond) (e .second) ∷ [];
   superframe = superframeOut (someSuperframeIf (k .superframe) (superframeAt s (e .bond) (e .plan)));

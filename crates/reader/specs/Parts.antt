@@ -1,23 +1,17 @@
--- What the reader's private functions give: of bytes 4 to 6 `headIn`, and of the parts that have several fields `scramblingAt` and `bondsAt`, each from what
+-- What the reader's private functions give of the parts that have several fields, `scramblingAt` and `bondsAt`, each from what
 -- `Rattle.s2xv2.specs.Read` says of the fields; and what they require of a body: it has `Reached` the ends of its parts, which are
 -- as its bonds and its superframe block say. Assumes nothing.
 use Prim.Native.Nat.{ℕ, _+_, _≤_, _<_}
 use mathlib.Core.Path.{_≡_}
-use mathlib.Core.List.{List, [], _∷_}
+use mathlib.Core.List.{List}
 use mathlib.Core.Bool.{Bool}
 use lib.ListN.{length}
 use Rattle.s2xv2.specs.Options.{orZero32}
-use Rattle.s2xv2.specs.Read.{only, hasSecond, bondSize, hasPlan, superframeSize, reserved6At, indexAt, reserved7At, countIf, firstIdAt, secondIdAt, recordIn}
-use Rattle.s2xv2.specs.declared.record.S2Xv2SatelliteDeliverySystem.{S2Xv2SatelliteDeliverySystem}
-use Rattle.flat.specs.Core.{coreOf}
+use Rattle.s2xv2.specs.Read.{only, hasSecond, bondSize, hasPlan, superframeSize, reserved6At, indexAt, reserved7At, countIf, firstIdAt, secondIdAt}
 use Rattle.layout.specs.declared.present.Present.{Present}
 use Rattle.layout.specs.declared.ends.Ends.{Ends}
 use Rattle.reader.specs.declared.parts.Scrambling.{Scrambling}
 use Rattle.reader.specs.declared.parts.Bonds.{Bonds}
-
--- the core of a body of which bytes 4 to 6 are known, and the others 0
-abbrev pub headIn : ℕ → ℕ → ℕ → S2Xv2SatelliteDeliverySystem
-headIn b4 b5 b6 = coreOf (recordIn (0 ∷ 0 ∷ 0 ∷ 0 ∷ b4 ∷ b5 ∷ b6 ∷ []))
 
 abbrev pub scramblingAt : List ℕ → ℕ → Bool → Scrambling
 scramblingAt s p there = record { reserved = reserved6At s p there; index = orZero32 (indexAt s p there) }

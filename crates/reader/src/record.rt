@@ -1,13 +1,17 @@
 // The record that a body holds.
 ghost use mathlib.Core.Path.{_≡_};
+ghost use Prim.Native.Nat.{_≤_};
+ghost use lib.ListN.{length};
 ghost use Rattle.s2xv2.specs.Options.{someSuperframeIf};
-ghost use Rattle.s2xv2.specs.Read.{superframeAt, recordAt};
+ghost use Rattle.s2xv2.specs.Read.{superframeAt, recordAt, recordIn};
+ghost use Rattle.flat.specs.Core.{coreOf};
 ghost use Rattle.flat.specs.Output.{superframeOut, recordOut};
 ghost use Rattle.layout.specs.Layout.{asked};
-ghost use Rattle.reader.specs.Parts.{headIn, Reached};
+ghost use Rattle.reader.specs.Parts.{Reached};
 use crate::bytes::be24;
 use crate::bytes::be32;
 use crate::bytes::byte;
+use crate::bytes::field_at;
 use crate::parts::block_at;
 use crate::parts::bonds_at;
 use crate::parts::byte_at;
@@ -23,27 +27,33 @@ use s2xv2::mode::S2Xv2Mode;
 use wire::field::bit_of;
 use wire::field::flag;
 
-// What bytes 4 to 6 say of a record, and nothing else of it.
-fn head_of(b4: u8, b5: u8, b6: u8) -> FlatRecord
-    ensures { λ r. ⌜ r ≡ recordOut (headIn b4 b5 b6) ⌝ }
+// The core, and nothing behind it.
+fn core_at(s: &[u8]) -> FlatRecord
+    requires { ⌜ 18 ≤ length (now s) ⌝ }
+    ensures { λ r. ⌜ r ≡ recordOut (coreOf (recordIn (now (s .entry)))) ⌝ }
 {
-    let mode = S2Xv2Mode::from_u8(b4 / 16);
+    let mode = S2Xv2Mode::from_u8(field_at(s, 4, 16, 16));
     let selector = mode.has_scrambling_selector();
+    let top = flag(byte(s, 6), 128);
     FlatRecord {
+        delivery_system_id: be32(s, 0),
+        satellite_id: be24(s, 7),
+        frequency: be32(s, 10),
+        symbol_rate: be32(s, 14),
         mode_is_reserved: is_reserved(mode),
-        s2xv2_mode: b4 / 16,
-        multiple_input_stream_flag: b4 / 8 % 2,
-        roll_off: b4 % 8,
-        reserved_zero_future_use_2: b5 / 64,
-        ncr_reference: b5 / 32 % 2,
-        ncr_version: b5 / 16 % 2,
-        channel_bond: b5 / 4 % 4,
-        polarization: b5 % 4,
+        s2xv2_mode: field_at(s, 4, 16, 16),
+        multiple_input_stream_flag: field_at(s, 4, 8, 2),
+        roll_off: field_at(s, 4, 1, 8),
+        reserved_zero_future_use_2: field_at(s, 5, 64, 4),
+        ncr_reference: field_at(s, 5, 32, 2),
+        ncr_version: field_at(s, 5, 16, 2),
+        channel_bond: field_at(s, 5, 4, 4),
+        polarization: field_at(s, 5, 1, 4),
         has_scrambling_sequence_selector: bit_of(selector),
-        scrambling_sequence_selector: bit_of(selector & flag(b6, 128)),
-        reserved_zero_future_use_1: bit_of(!selector & flag(b6, 128)),
-        ts_gs_s2x_mode: b6 / 32 % 4,
-        receiver_profiles: b6 % 32,
+        scrambling_sequence_selector: bit_of(selector & top),
+        reserved_zero_future_use_1: bit_of(!selector & top),
+        ts_gs_s2x_mode: field_at(s, 6, 32, 4),
+        receiver_profiles: field_at(s, 6, 1, 32),
         ..NOTHING
     }
 }
@@ -57,10 +67,6 @@ fn record_of(s: &[u8], k: Present, e: Ends, superframe: FlatSuperframe) -> FlatR
     let scrambling = scrambling_at(s, e.stream, k.scrambling);
     let bonds = bonds_at(s, e.timeslice, k.bond, e.second);
     FlatRecord {
-        delivery_system_id: be32(s, 0),
-        satellite_id: be24(s, 7),
-        frequency: be32(s, 10),
-        symbol_rate: be32(s, 14),
         scrambling_sequence_index: scrambling.index,
         secondary_delivery_system_ids: [bonds.first, bonds.second],
         superframe,
@@ -73,7 +79,7 @@ fn record_of(s: &[u8], k: Present, e: Ends, superframe: FlatSuperframe) -> FlatR
         reserved_zero_future_use_7: bonds.reserved,
         num_channel_bonds: bonds.count,
         has_superframe: bit_of(k.superframe),
-        ..head_of(byte(s, 4), byte(s, 5), byte(s, 6))
+        ..core_at(s)
     }
 }
 

@@ -1,7 +1,10 @@
--- `measure::write_answer_flat` meets its contract: the test picks the case.
+-- `measure::write_answer_flat` meets its contract: the tests pick the case; what nothing refuses is accepted with its length.
 -- Assumes nothing.
 use mathlib.Core.Path.{sym, _∙_}
+use denote.Ref.{now}
+use Rattle.flat.specs.Input.{recordIn}
 use Rattle.measure.proofs.Flags.{flagged}
+use Rattle.measure.proofs.Accepted.{write-accepted}
 use borrow.Author.Needs.{needs}
 use Rattle.measure.proofs.write_answer_flat.Statement.{statement}
 use Rattle.measure.proofs.write_answer_flat.Tie as tie
@@ -9,28 +12,40 @@ use Rattle.measure.proofs.write_answer_flat.Tie as tie
 is-valid-requires : tie.Need-is-valid-requires
 is-valid-requires c κs = search needs
 
-answered-requires : tie.Need-answered-requires
-answered-requires c κs = flagged _ (sym (c .before .is-valid .ensures) ∙ c .if1 .taken)
+ready-len-requires : tie.Need-ready-len-requires
+ready-len-requires c κs = flagged _ (sym (c .before .is-valid .ensures) ∙ c .if1 .taken)
+
+judged-requires : tie.Need-judged-requires
+judged-requires c κs = flagged _ (sym (c .before .before .before .is-valid .ensures) ∙ c .before .before .if1 .taken)
 
 answer-out-requires : tie.Need-answer-out-requires
 answer-out-requires c κs = search needs
+
+answer-of-requires : tie.Need-answer-of-requires
+answer-of-requires c κs = search needs
 
 foreign-requires : tie.Need-foreign-requires
 foreign-requires c κs = search needs
 
 returns : tie.Need-returns
-returns c = simp (c .answer-out .ensures, c .before .answered .ensures, sym (c .before .before .before .is-valid .ensures) ∙ c .before .before .if1 .taken)
+returns c = simp (c .answer-out .ensures, c .before .judged .ensures, sym (c .before .before .before .before .before .is-valid .ensures) ∙ c .before .before .before .before .if1 .taken)
 
 returns-2 : tie.Need-returns-2
-returns-2 c = simp (c .foreign .ensures, sym (c .before .before .is-valid .ensures) ∙ c .before .if1 .left)
+returns-2 c = let a = c .before .before .before .before .before .before .args in simp (c .answer-of .ensures, sym (c .before .before .before .before .is-valid .ensures) ∙ c .before .before .before .if1 .taken, sym (write-accepted (recordIn (a .c)) (now (a .reserved-tail)) (a .room) _ (c .before .before .ready-len .ensures (c .before .if2 .left))))
+
+returns-3 : tie.Need-returns-3
+returns-3 c = simp (c .foreign .ensures, sym (c .before .before .is-valid .ensures) ∙ c .before .if1 .left)
 
 pub write-answer-flat-spec : {M : Type 1} → statement M
 write-answer-flat-spec =
     tie.close
     (tie.spec
     is-valid-requires
-    answered-requires
+    ready-len-requires
+    judged-requires
     answer-out-requires
+    answer-of-requires
     foreign-requires
     returns
-    returns-2)
+    returns-2
+    returns-3)

@@ -1,10 +1,8 @@
 -- `measure::checks::agrees` meets its contract: the tests that hold say what agrees.
 -- Assumes nothing.
 use mathlib.Core.Path.{sym, _∙_}
-use mathlib.Core.List.{[], _∷_}
-use lib.Dec.{eqb}
-use borrow.Author.Tests.{eqb-true}
-use Rattle.measure.proofs.Flags.{all-hold}
+use borrow.Author.Tests.{eqb-true, ne-eqb}
+use Rattle.measure.proofs.Flags.{never, on-the-way}
 use borrow.Author.Needs.{needs}
 use Rattle.measure.proofs.checks.agrees.Statement.{statement}
 use Rattle.measure.proofs.checks.agrees.Tie as tie
@@ -19,7 +17,10 @@ due-requires : tie.Need-due-requires
 due-requires c κs = search needs
 
 returns : tie.Need-returns
-returns c = λ e. let r = c .before .before .before .before .before .args .c in let k = all-hold (eqb (r .«has_input_stream_identifier») (r .«multiple_input_stream_flag»)) (eqb (c .before .before .before .seen .result) (c .before .due .result) ∷ eqb (r .«has_scrambling_sequence_index») (c .before .before .before .before .both .result) ∷ []) e in record { stream = eqb-true _ _ (k .0); parts = sym (c .before .before .before .seen .ensures) ∙ eqb-true _ _ (k .1 .0) ∙ c .before .due .ensures; index = eqb-true _ _ (k .1 .1 .0) ∙ c .before .before .before .before .both .ensures .0 }
+returns c = λ e. let w1 = on-the-way (c .before .before .if1 .came) (λ l. l .1 ∙ ne-eqb _ _ (l .0 .left)) (c .before .if2 .taken) in record { stream = w1 .0 .taken; parts = sym (c .before .before .before .before .seen .ensures) ∙ eqb-true _ _ (sym (w1 .2) ∙ c .before .if2 .taken) ∙ w1 .1 .ensures; index = eqb-true _ _ e ∙ c .before .before .before .before .before .both .ensures .0 }
+
+returns-2 : tie.Need-returns-2
+returns-2 c = λ e. never (sym (c .if2 .left) ∙ e)
 
 pub agrees-spec : {M : Type 1} → statement M
-agrees-spec = tie.close (tie.spec both-requires seen-requires due-requires returns)
+agrees-spec = tie.close (tie.spec both-requires seen-requires due-requires returns returns-2)

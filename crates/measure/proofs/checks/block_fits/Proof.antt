@@ -1,9 +1,8 @@
 -- `measure::checks::block_fits` meets its contract: the tests that hold bound the numbers.
 -- Assumes nothing.
-use mathlib.Core.List.{[], _∷_}
-use lib.Dec.{eqb, ltb}
-use borrow.Author.Tests.{ltb-true, eqb-true}
-use Rattle.measure.proofs.Flags.{all-hold}
+use mathlib.Core.Path.{sym, _∙_}
+use borrow.Author.Tests.{ltb-true, le-ltb, eqb-true}
+use Rattle.measure.proofs.Flags.{never, on-the-way}
 use borrow.Author.Needs.{needs}
 use Rattle.measure.proofs.checks.block_fits.Statement.{statement}
 use Rattle.measure.proofs.checks.block_fits.Tie as tie
@@ -12,7 +11,10 @@ picked-requires : tie.Need-picked-requires
 picked-requires c κs = search needs
 
 returns : tie.Need-returns
-returns c = λ e. let f = c .before .before .before .before .before .before .before .before .args .f in let k = all-hold (ltb (f .«reference_scrambling_index») 1048576) (ltb (f .«payload_scrambling_index») 1048576 ∷ ltb (f .«reserved_zero_future_use_2») 4 ∷ eqb (f .«has_sffi») (f .«sffi_selector») ∷ ltb (c .before .before .before .before .before .before .before .picked .result) 16 ∷ eqb (f .«has_beamhopping_time_plan_id») (f .«beam_hopping_time_plan_selector») ∷ ltb (f .«superframe_pilots_wh_sequence_number») 32 ∷ ltb (f .«postamble_pli») 8 ∷ []) e in record { reference = ltb-true _ _ (k .0); payload = ltb-true _ _ (k .1 .0); reserved = ltb-true _ _ (k .1 .1 .0); sffi = eqb-true _ _ (k .1 .1 .1 .0); nibble = rw (c .before .before .before .before .before .before .before .picked .ensures) at (ltb-true (c .before .before .before .before .before .before .before .picked .result) 16 (k .1 .1 .1 .1 .0)); plan = eqb-true _ _ (k .1 .1 .1 .1 .1 .0); pilots = ltb-true _ _ (k .1 .1 .1 .1 .1 .1 .0); pli = ltb-true _ _ (k .1 .1 .1 .1 .1 .1 .1 .0) }
+returns c = λ e. let w6 = on-the-way (c .before .before .if6 .came) (λ l. l .1 ∙ l .0 .left) (c .before .if7 .taken) in let w5 = on-the-way (c .before .before .before .if5 .came) (λ l. l .1 ∙ l .0 .left) (w6 .0 .taken) in let w4 = on-the-way (c .before .before .before .before .if4 .came) (λ l. l .1 ∙ l .0 .left) (w5 .0 .taken) in let w3 = on-the-way (c .before .before .before .before .before .if3 .came) (λ l. l .1 ∙ l .0 .left) (w4 .0 .taken) in let w2 = on-the-way (c .before .before .before .before .before .before .if2 .came) (λ l. l .1 ∙ l .0 .left) (w3 .0 .taken) in let w1 = on-the-way (c .before .before .before .before .before .before .before .if1 .came) (λ l. l .1 ∙ le-ltb _ _ (l .0 .left)) (w2 .0 .taken) in record { reference = w1 .0 .taken; payload = ltb-true _ _ (sym (w1 .2) ∙ w2 .0 .taken); reserved = ltb-true _ _ (sym (w2 .2) ∙ w3 .0 .taken); sffi = eqb-true _ _ (sym (w3 .2) ∙ w4 .0 .taken); nibble = rw (c .before .before .before .before .before .before .before .before .before .picked .ensures) at (ltb-true (c .before .before .before .before .before .before .before .before .before .picked .result) 16 (sym (w4 .1) ∙ w5 .0 .taken)); plan = eqb-true _ _ (sym (w5 .2) ∙ w6 .0 .taken); pilots = ltb-true _ _ (sym (w6 .2) ∙ c .before .if7 .taken); pli = ltb-true _ _ e }
+
+returns-2 : tie.Need-returns-2
+returns-2 c = λ e. never (sym (c .if7 .left) ∙ e)
 
 pub block-fits-spec : {M : Type 1} → statement M
-block-fits-spec = tie.close (tie.spec picked-requires returns)
+block-fits-spec = tie.close (tie.spec picked-requires returns returns-2)

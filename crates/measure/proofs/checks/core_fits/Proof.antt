@@ -1,9 +1,8 @@
 -- `measure::checks::core_fits` meets its contract: the tests that hold bound the numbers.
 -- Assumes nothing.
-use mathlib.Core.List.{[], _∷_}
-use lib.Dec.{ltb}
-use borrow.Author.Tests.{ltb-true}
-use Rattle.measure.proofs.Flags.{all-hold, four-joined}
+use mathlib.Core.Path.{sym, _∙_}
+use borrow.Author.Tests.{ltb-true, le-ltb}
+use Rattle.measure.proofs.Flags.{never, on-the-way, four-joined}
 use borrow.Author.Needs.{needs}
 use Rattle.measure.proofs.checks.core_fits.Statement.{statement}
 use Rattle.measure.proofs.checks.core_fits.Tie as tie
@@ -21,9 +20,18 @@ joined-requires-3 : tie.Need-joined-requires-3
 joined-requires-3 c κs = search needs
 
 returns : tie.Need-returns
-returns c = λ e. let r = c .before .before .before .before .before .before .before .before .args .c in let k = all-hold (ltb (c .before .before .before .before .joined3 .result) 4) (ltb (r .«s2xv2_mode») 16 ∷ ltb (r .«roll_off») 8 ∷ ltb (r .«receiver_profiles») 32 ∷ ltb (c .before .before .before .before .before .picked .result) 2 ∷ ltb (r .«satellite_id») 16777216 ∷ []) e in let q = four-joined (r .«reserved_zero_future_use_2») (r .«channel_bond») (r .polarization) (r .«ts_gs_s2x_mode») _ _ _ (c .before .before .before .before .before .before .before .joined .ensures) (c .before .before .before .before .before .before .joined2 .ensures) (c .before .before .before .before .joined3 .ensures) (ltb-true _ _ (k .0)) in record { mode = ltb-true _ _ (k .1 .0); roll = ltb-true _ _ (k .1 .1 .0); reserved = q .0; bond = q .1; polarization = q .2; top = rw (c .before .before .before .before .before .picked .ensures) at (ltb-true (c .before .before .before .before .before .picked .result) 2 (k .1 .1 .1 .1 .0)); tsgs = q .3; profiles = ltb-true _ _ (k .1 .1 .1 .0); satellite = ltb-true _ _ (k .1 .1 .1 .1 .1 .0) }
+returns c = λ e. let w4 = on-the-way (c .before .before .if4 .came) (λ l. l .1 ∙ l .0 .left) (c .before .if5 .taken) in let w3 = on-the-way (c .before .before .before .if3 .came) (λ l. l .1 ∙ l .0 .left) (w4 .0 .taken) in let w2 = on-the-way (c .before .before .before .before .if2 .came) (λ l. l .1 ∙ l .0 .left) (w3 .0 .taken) in let w1 = on-the-way (c .before .before .before .before .before .if1 .came) (λ l. l .1 ∙ le-ltb _ _ (l .0 .left)) (w2 .0 .taken) in let r = c .before .before .before .before .before .before .before .before .before .before .args .c in let q = four-joined (r .«reserved_zero_future_use_2») (r .«channel_bond») (r .polarization) (r .«ts_gs_s2x_mode») _ _ _ (c .before .before .before .before .before .before .before .before .before .joined .ensures) (c .before .before .before .before .before .before .before .before .joined2 .ensures) (c .before .before .before .before .before .before .joined3 .ensures) (w1 .0 .taken) in record { mode = ltb-true _ _ (sym (w1 .2) ∙ w2 .0 .taken); roll = ltb-true _ _ (sym (w2 .2) ∙ w3 .0 .taken); reserved = q .0; bond = q .1; polarization = q .2; top = rw (c .before .before .before .before .before .before .before .picked .ensures) at (ltb-true (c .before .before .before .before .before .before .before .picked .result) 2 (sym (w4 .1) ∙ c .before .if5 .taken)); tsgs = q .3; profiles = ltb-true _ _ (sym (w3 .2) ∙ w4 .0 .taken); satellite = ltb-true _ _ e }
+
+returns-2 : tie.Need-returns-2
+returns-2 c = λ e. never (sym (c .if5 .left) ∙ e)
 
 pub core-fits-spec : {M : Type 1} → statement M
 core-fits-spec =
     tie.close
-    (tie.spec joined-requires joined-requires-2 picked-requires joined-requires-3 returns)
+    (tie.spec
+    joined-requires
+    joined-requires-2
+    picked-requires
+    joined-requires-3
+    returns
+    returns-2)

@@ -1,8 +1,8 @@
 -- `measure::checks::is_checked` meets its contract: each test says what it found, and a record of which all of that holds passes both lists.
 -- Assumes nothing.
-use mathlib.Core.List.{[], _∷_}
+use mathlib.Core.Path.{sym, _∙_}
 use Rattle.measure.proofs.Checked.{checked}
-use Rattle.measure.proofs.Flags.{all-hold}
+use Rattle.measure.proofs.Flags.{never, on-the-way}
 use borrow.Author.Needs.{needs}
 use Rattle.measure.proofs.checks.is_checked.Statement.{statement}
 use Rattle.measure.proofs.checks.is_checked.Tie as tie
@@ -23,7 +23,10 @@ superframe-fits-requires : tie.Need-superframe-fits-requires
 superframe-fits-requires c κs = search needs
 
 returns : tie.Need-returns
-returns c = λ e. let k = all-hold (c .before .before .agrees .result) (c .before .core-fits .result ∷ c .before .before .before .before .scrambling-fits .result ∷ c .before .before .before .bonds-fit .result ∷ c .superframe-fits .result ∷ []) e in checked (c .before .before .before .before .before .before .args .c) (c .before .before .before .before .before .before .pre) (c .before .before .agrees .ensures (k .0)) (c .before .core-fits .ensures (k .1 .0)) (c .superframe-fits .ensures (k .1 .1 .1 .1 .0)) (c .before .before .before .before .scrambling-fits .ensures (k .1 .1 .0)) (c .before .before .before .bonds-fit .ensures (k .1 .1 .1 .0))
+returns c = λ e. let w3 = on-the-way (c .before .before .if3 .came) (λ l. l .1 ∙ l .0 .left) (c .before .if4 .taken) in let w2 = on-the-way (c .before .before .before .if2 .came) (λ l. l .1 ∙ l .0 .left) (w3 .0 .taken) in let w1 = on-the-way (c .before .before .before .before .if1 .came) (λ l. l .1 ∙ l .0 .left) (w2 .0 .taken) in checked (c .before .before .before .before .before .before .before .before .before .args .c) (c .before .before .before .before .before .before .before .before .before .pre) (c .before .before .before .before .before .agrees .ensures (w1 .0 .taken)) (w1 .1 .ensures (sym (w1 .2) ∙ w2 .0 .taken)) (c .superframe-fits .ensures e) (c .before .before .before .before .before .before .before .scrambling-fits .ensures (sym (w2 .1) ∙ w3 .0 .taken)) (c .before .before .before .before .before .before .bonds-fit .ensures (sym (w3 .1) ∙ c .before .if4 .taken))
+
+returns-2 : tie.Need-returns-2
+returns-2 c = λ e. never (sym (c .if4 .left) ∙ e)
 
 pub is-checked-spec : {M : Type 1} → statement M
 is-checked-spec =
@@ -34,4 +37,5 @@ is-checked-spec =
     agrees-requires
     core-fits-requires
     superframe-fits-requires
-    returns)
+    returns
+    returns-2)
