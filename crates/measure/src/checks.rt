@@ -99,12 +99,11 @@ fn bonds_fit(bond: u8, count: u8, reserved: u8) -> bool
 fn block_fits(f: FlatSuperframe) -> bool
     ensures { λ r. ⌜ (r ≡ true → BlockFits f) ⌝ }
 {
-    let nibble = picked(f.sffi_selector, f.sffi, f.reserved_zero_future_use_4);
     f.reference_scrambling_index < 1048576
         && f.payload_scrambling_index < 1048576
         && f.reserved_zero_future_use_2 < 4
         && f.has_sffi == f.sffi_selector
-        && nibble < 16
+        && picked(f.sffi_selector, f.sffi, f.reserved_zero_future_use_4) < 16
         && f.has_beamhopping_time_plan_id == f.beam_hopping_time_plan_selector
         && f.superframe_pilots_wh_sequence_number < 32
         && f.postamble_pli < 8
@@ -123,15 +122,17 @@ pub(crate) fn is_checked(c: FlatRecord) -> bool
     ensures { λ r. ⌜ (r ≡ true → Checked (recordIn c)) ⌝ }
 {
     let block = c.superframe;
-    let scrambling = scrambling_fits(
-        c.has_scrambling_sequence_index,
-        c.scrambling_sequence_index,
-        c.reserved_zero_future_use_6,
-    );
-    let bonds = bonds_fit(
-        c.channel_bond,
-        c.num_channel_bonds,
-        c.reserved_zero_future_use_7,
-    );
-    agrees(c) && core_fits(c) && scrambling && bonds && superframe_fits(c.has_superframe, block)
+    agrees(c)
+        && core_fits(c)
+        && superframe_fits(c.has_superframe, block)
+        && scrambling_fits(
+            c.has_scrambling_sequence_index,
+            c.scrambling_sequence_index,
+            c.reserved_zero_future_use_6,
+        )
+        && bonds_fit(
+            c.channel_bond,
+            c.num_channel_bonds,
+            c.reserved_zero_future_use_7,
+        )
 }

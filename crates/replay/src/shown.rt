@@ -47,14 +47,10 @@ fn selector(v: OptionBool) -> u32 {
 
 // 1 where the mode is `Reserved`, whatever it holds.
 fn reserved(mode: S2Xv2Mode) -> u32 {
-    match mode {
-        S2Xv2Mode::Reserved(_) => 1,
-        S2Xv2Mode::Reserved0 => 0,
-        S2Xv2Mode::S2X => 0,
-        S2Xv2Mode::S2XTimeSlicing => 0,
-        S2Xv2Mode::Reserved3 => 0,
-        S2Xv2Mode::S2XSuperframe => 0,
-        S2Xv2Mode::S2XSuperframeTimeSlicing => 0,
+    if let S2Xv2Mode::Reserved(_) = mode {
+        1
+    } else {
+        0
     }
 }
 

@@ -3,142 +3,50 @@
 use crate::draw::draws;
 use crate::draw::mode_of;
 
-// Of each field: the largest number of its type.
-const TYPES: [u32; 42] = [
-    4_294_967_295,
-    255,
-    1,
-    1,
-    255,
-    255,
-    1,
-    1,
-    255,
-    255,
-    3,
-    255,
-    255,
-    255,
-    4_294_967_295,
-    4_294_967_295,
-    4_294_967_295,
-    1,
-    255,
-    255,
-    1,
-    4_294_967_295,
-    1,
-    255,
-    255,
-    4_294_967_295,
-    4_294_967_295,
-    255,
-    1,
-    255,
-    1,
-    1,
-    255,
-    4_294_967_295,
-    1,
-    255,
-    255,
-    4_294_967_295,
-    1,
-    4_294_967_295,
-    255,
-    255,
-];
-
-// Of each field: the largest number that the wire carries.
-const LARGEST: [u32; 42] = [
-    4_294_967_295,
-    15,
-    1,
-    1,
-    7,
-    3,
-    1,
-    1,
-    3,
-    3,
-    3,
-    1,
-    3,
-    31,
-    16_777_215,
-    4_294_967_295,
-    4_294_967_295,
-    1,
-    255,
-    63,
-    1,
-    262_143,
-    1,
-    255,
-    127,
-    4_294_967_295,
-    4_294_967_295,
-    255,
-    1,
-    255,
-    1,
-    1,
-    3,
-    1_048_575,
-    1,
-    15,
-    15,
-    1_048_575,
-    1,
-    4_294_967_295,
-    31,
-    7,
-];
-
-// Of each field: its place in list B, 0 where it has none.
-const PLACES: [u32; 42] = [
-    0,
-    1,
-    0,
-    0,
-    2,
-    3,
-    0,
-    0,
-    4,
-    5,
-    0,
-    6,
-    7,
-    8,
-    9,
-    0,
-    0,
-    0,
-    0,
-    12,
-    0,
-    11,
-    0,
-    0,
-    14,
-    0,
-    0,
-    0,
-    0,
-    0,
-    0,
-    0,
-    17,
-    15,
-    0,
-    19,
-    19,
-    16,
-    0,
-    0,
-    21,
-    22,
+// Of each field: the largest number of its type, the largest that the wire carries, and its place in list B, 0 where it has none.
+const FIELDS: [[u32; 3]; 42] = [
+    [4_294_967_295, 4_294_967_295, 0], // 0: delivery_system_id
+    [255, 15, 1], // 1: s2xv2_mode: its code
+    [1, 1, 0], // 2: whether it is held by `Reserved`
+    [1, 1, 0], // 3: multiple_input_stream_flag
+    [255, 7, 2], // 4: roll_off
+    [255, 3, 3], // 5: reserved_zero_future_use_2
+    [1, 1, 0], // 6: ncr_reference
+    [1, 1, 0], // 7: ncr_version
+    [255, 3, 4], // 8: channel_bond
+    [255, 3, 5], // 9: polarization
+    [3, 3, 0], // 10: scrambling_sequence_selector: 0 absent, 1 clear, 2 set
+    [255, 1, 6], // 11: reserved_zero_future_use_1
+    [255, 3, 7], // 12: ts_gs_s2x_mode
+    [255, 31, 8], // 13: receiver_profiles
+    [4_294_967_295, 16_777_215, 9], // 14: satellite_id
+    [4_294_967_295, 4_294_967_295, 0], // 15: frequency
+    [4_294_967_295, 4_294_967_295, 0], // 16: symbol_rate
+    [1, 1, 0], // 17: whether there is an input_stream_identifier
+    [255, 255, 0], // 18: input_stream_identifier
+    [255, 63, 12], // 19: reserved_zero_future_use_6
+    [1, 1, 0], // 20: whether there is a scrambling_sequence_index
+    [4_294_967_295, 262_143, 11], // 21: scrambling_sequence_index
+    [1, 1, 0], // 22: whether there is a timeslice_number
+    [255, 255, 0], // 23: timeslice_number
+    [255, 127, 14], // 24: reserved_zero_future_use_7
+    [4_294_967_295, 4_294_967_295, 0], // 25: the first of secondary_delivery_system_ids
+    [4_294_967_295, 4_294_967_295, 0], // 26: the second
+    [255, 255, 0], // 27: num_channel_bonds
+    [1, 1, 0], // 28: whether there is a superframe
+    [255, 255, 0], // 29: sosf_wh_sequence_number
+    [1, 1, 0], // 30: sffi_selector
+    [1, 1, 0], // 31: beam_hopping_time_plan_selector
+    [255, 3, 17], // 32: its reserved_zero_future_use_2
+    [4_294_967_295, 1_048_575, 15], // 33: reference_scrambling_index
+    [1, 1, 0], // 34: whether there is an sffi
+    [255, 15, 19], // 35: sffi
+    [255, 15, 19], // 36: reserved_zero_future_use_4
+    [4_294_967_295, 1_048_575, 16], // 37: payload_scrambling_index
+    [1, 1, 0], // 38: whether there is a beamhopping_time_plan_id
+    [4_294_967_295, 4_294_967_295, 0], // 39: beamhopping_time_plan_id
+    [255, 31, 21], // 40: superframe_pilots_wh_sequence_number
+    [255, 7, 22], // 41: postamble_pli
 ];
 
 // The low 32 bits of a number.
@@ -172,7 +80,7 @@ fn all(full: u32) -> [u32; 45] {
     let mut v = [0u32; 45];
     let mut i = 0;
     while i < 42 {
-        v[i] = once(full, LARGEST[i]);
+        v[i] = once(full, FIELDS[i][1]);
         i += 1;
     }
     v
@@ -243,7 +151,7 @@ pub(crate) fn walk(case: u32) -> [u32; 45] {
     let field = (case % 42) as usize;
     let full = case / 21_504 % 2;
     let mut values = plain(case / 1344 % 16, full);
-    values[field] = turned(values[field], weight(case / 42 % 32, TYPES[field]));
+    values[field] = turned(values[field], weight(case / 42 % 32, FIELDS[field][0]));
     values[42] = full * 3;
     values[43] = 3;
     values
@@ -286,7 +194,7 @@ fn values(d: &[u32; 48], f: Faults) -> [u32; 45] {
     let mut v = [0u32; 45];
     let mut i = 0;
     while i < 42 {
-        v[i] = value(d[i], LARGEST[i], TYPES[i], f.b(PLACES[i]));
+        v[i] = value(d[i], FIELDS[i][1], FIELDS[i][0], f.b(FIELDS[i][2]));
         i += 1;
     }
     v

@@ -91,20 +91,15 @@ fn run_in(
 }
 
 // A case: its slot has `n` bytes.
-fn run(
-    d: u32,
-    case: u32,
-    body: &mut [u8],
-    start: &mut [u8],
-    slot: &mut [u8],
-    tail: &[u8],
-    counts: &mut [u32; 5],
-) -> u32 {
+fn run(d: u32, case: u32, tail: &[u8], counts: &mut [u32; 5]) -> u32 {
     let kind = case / 237;
     let n = (21 + case % 237) as usize;
     let b = count_of(kind, n);
-    make_body(case, kind, b, body);
-    if body.len() < b || start.len() < n || slot.len() < n || tail.len() < n - 21 {
+    let mut body = [0u8; 300];
+    let mut start = [0u8; 257];
+    let mut slot = [0u8; 257];
+    make_body(case, kind, b, &mut body);
+    if 300 < b || 257 < n || tail.len() < n - 21 {
         return d;
     }
     run_in(
@@ -119,17 +114,11 @@ fn run(
 }
 
 // All cases.
-fn run_all(
-    body: &mut [u8],
-    start: &mut [u8],
-    slot: &mut [u8],
-    tail: &[u8],
-    counts: &mut [u32; 5],
-) -> u32 {
+fn run_all(tail: &[u8], counts: &mut [u32; 5]) -> u32 {
     let mut d: u32 = 0;
     let mut case = 0;
     while case < 1422 {
-        d = run(d, case, body, start, slot, tail, counts);
+        d = run(d, case, tail, counts);
         case += 1;
     }
     d
@@ -143,13 +132,10 @@ fn word(text: &[u8], n: u32) {
 
 // Runs all cases, and prints the counts and the digest.
 fn main() {
-    let mut body = [0u8; 300];
-    let mut start = [0u8; 257];
-    let mut slot = [0u8; 257];
     let mut tail = [0u8; 257];
     let mut counts = [0u32; 5];
     fill(&mut tail, 257, 1);
-    let d = run_all(&mut body, &mut start, &mut slot, &tail, &mut counts);
+    let d = run_all(&tail, &mut counts);
     word(b"jobs 1422\n", counts[0]);
     word(b" ", counts[1]);
     word(b" ", counts[2]);

@@ -7,12 +7,6 @@ use borrow.Author.Needs.{needs}
 use Rattle.measure.proofs.checks.is_checked.Statement.{statement}
 use Rattle.measure.proofs.checks.is_checked.Tie as tie
 
-scrambling-fits-requires : tie.Need-scrambling-fits-requires
-scrambling-fits-requires c κs = search needs
-
-bonds-fit-requires : tie.Need-bonds-fit-requires
-bonds-fit-requires c κs = search needs
-
 agrees-requires : tie.Need-agrees-requires
 agrees-requires c κs = search needs
 
@@ -22,8 +16,14 @@ core-fits-requires c κs = search needs
 superframe-fits-requires : tie.Need-superframe-fits-requires
 superframe-fits-requires c κs = search needs
 
+scrambling-fits-requires : tie.Need-scrambling-fits-requires
+scrambling-fits-requires c κs = search needs
+
+bonds-fit-requires : tie.Need-bonds-fit-requires
+bonds-fit-requires c κs = search needs
+
 returns : tie.Need-returns
-returns c = λ e. let w3 = on-the-way (c .before .before .if3 .came) (λ l. l .1 ∙ l .0 .left) (c .before .if4 .taken) in let w2 = on-the-way (c .before .before .before .if2 .came) (λ l. l .1 ∙ l .0 .left) (w3 .0 .taken) in let w1 = on-the-way (c .before .before .before .before .if1 .came) (λ l. l .1 ∙ l .0 .left) (w2 .0 .taken) in checked (c .before .before .before .before .before .before .before .before .before .args .c) (c .before .before .before .before .before .before .before .before .before .pre) (c .before .before .before .before .before .agrees .ensures (w1 .0 .taken)) (w1 .1 .ensures (sym (w1 .2) ∙ w2 .0 .taken)) (c .superframe-fits .ensures e) (c .before .before .before .before .before .before .before .scrambling-fits .ensures (sym (w2 .1) ∙ w3 .0 .taken)) (c .before .before .before .before .before .before .bonds-fit .ensures (sym (w3 .1) ∙ c .before .if4 .taken))
+returns c = λ e. let w3 = on-the-way (c .before .before .if3 .came) (λ l. l .1 ∙ l .0 .left) (c .before .if4 .taken) in let w2 = on-the-way (c .before .before .before .if2 .came) (λ l. l .1 ∙ l .0 .left) (w3 .0 .taken) in let w1 = on-the-way (c .before .before .before .before .if1 .came) (λ l. l .1 ∙ l .0 .left) (w2 .0 .taken) in checked (c .before .before .before .before .before .before .before .args .c) (c .before .before .before .before .before .before .before .pre) (c .before .before .before .before .before .agrees .ensures (w1 .0 .taken)) (w1 .1 .ensures (sym (w1 .2) ∙ w2 .0 .taken)) (w2 .1 .ensures (sym (w2 .2) ∙ w3 .0 .taken)) (w3 .1 .ensures (sym (w3 .2) ∙ c .before .if4 .taken)) (c .bonds-fit .ensures e)
 
 returns-2 : tie.Need-returns-2
 returns-2 c = λ e. never (sym (c .if4 .left) ∙ e)
@@ -32,10 +32,10 @@ pub is-checked-spec : {M : Type 1} → statement M
 is-checked-spec =
     tie.close
     (tie.spec
-    scrambling-fits-requires
-    bonds-fit-requires
     agrees-requires
     core-fits-requires
     superframe-fits-requires
+    scrambling-fits-requires
+    bonds-fit-requires
     returns
     returns-2)
