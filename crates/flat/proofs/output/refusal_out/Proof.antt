@@ -1,8 +1,17 @@
 -- `flat::output::refusal_out` meets its contract: the arm that was taken is the case of the definition.
 -- Assumes nothing.
+use mathlib.Core.Path.{_≡_, sym, ap, _∙_}
+use Rattle.s2xv2.specs.Answer.{numbers}
+use Rattle.s2xv2.specs.declared.answer.Refusal.{Refusal}
+use Rattle.flat.specs.Output.{answerOut}
+use Rattle.flat.specs.declared.types.FlatAnswer.{FlatAnswer}
 use borrow.Author.Needs.{needs}
 use Rattle.flat.proofs.output.refusal_out.Statement.{statement}
 use Rattle.flat.proofs.output.refusal_out.Tie as tie
+
+-- what is told of a case is told of the refusal
+told-by : {why case : Refusal} {r : FlatAnswer} → why ≡ case → r ≡ answerOut (numbers case) → r ≡ answerOut (numbers why)
+told-by e h = h ∙ ap (λ (w : Refusal). answerOut (numbers w)) (sym e)
 
 enum-known-why : tie.Need-enum-known-why
 enum-known-why c = search needs
@@ -65,60 +74,28 @@ answer-of-requires-8 : tie.Need-answer-of-requires-8
 answer-of-requires-8 c κs = search needs
 
 returns : tie.Need-returns
-returns c =
-    simp (
-      c .answer-of .ensures,
-      c .before .before .why .given .1,
-    )
+returns c = told-by (c .before .before .why .given .1) (c .answer-of .ensures)
 
 returns-2 : tie.Need-returns-2
-returns-2 c =
-    simp (
-      c .answer-of2 .ensures,
-      c .before .before .why2 .given .1,
-    )
+returns-2 c = told-by (c .before .before .why2 .given .1) (c .answer-of2 .ensures)
 
 returns-3 : tie.Need-returns-3
-returns-3 c =
-    simp (
-      c .answer-of3 .ensures,
-      c .before .before .why3 .given .1,
-    )
+returns-3 c = told-by (c .before .before .why3 .given .1) (c .answer-of3 .ensures)
 
 returns-4 : tie.Need-returns-4
-returns-4 c =
-    simp (
-      c .answer-of4 .ensures,
-      c .before .before .why4 .given .1,
-    )
+returns-4 c = told-by (c .before .before .why4 .given .1) (c .answer-of4 .ensures)
 
 returns-5 : tie.Need-returns-5
-returns-5 c =
-    simp (
-      c .answer-of5 .ensures,
-      c .before .before .why5 .given .1,
-    )
+returns-5 c = told-by (c .before .before .why5 .given .1) (c .answer-of5 .ensures)
 
 returns-6 : tie.Need-returns-6
-returns-6 c =
-    simp (
-      c .answer-of6 .ensures,
-      c .before .enum-told .given .1,
-    )
+returns-6 c = told-by (c .before .enum-told .given .1) (c .answer-of6 .ensures)
 
 returns-7 : tie.Need-returns-7
-returns-7 c =
-    simp (
-      c .answer-of7 .ensures,
-      c .before .before .why6 .given .1,
-    )
+returns-7 c = told-by (c .before .before .why6 .given .1) (c .answer-of7 .ensures)
 
 returns-8 : tie.Need-returns-8
-returns-8 c =
-    simp (
-      c .answer-of8 .ensures,
-      c .before .enum-told2 .given .1,
-    )
+returns-8 c = told-by (c .before .enum-told2 .given .1) (c .answer-of8 .ensures)
 
 pub refusal-out-spec : {M : Type 1} → statement M
 refusal-out-spec =
