@@ -79,8 +79,8 @@ fn superframe_if(v: &[u32; 45]) -> OptionSuperframe {
     }
 }
 
-// The record.
-pub(crate) fn record(v: &[u32; 45]) -> S2Xv2SatelliteDeliverySystem {
+// The core of the record, and nothing else of it.
+fn core(v: &[u32; 45]) -> S2Xv2SatelliteDeliverySystem {
     S2Xv2SatelliteDeliverySystem {
         delivery_system_id: v[0],
         s2xv2_mode: mode(v[1], v[2]),
@@ -98,6 +98,13 @@ pub(crate) fn record(v: &[u32; 45]) -> S2Xv2SatelliteDeliverySystem {
         satellite_id: v[14],
         frequency: v[15],
         symbol_rate: v[16],
+        ..S2Xv2SatelliteDeliverySystem::default()
+    }
+}
+
+// The record.
+pub(crate) fn record(v: &[u32; 45]) -> S2Xv2SatelliteDeliverySystem {
+    S2Xv2SatelliteDeliverySystem {
         input_stream_identifier: option8(v[17], v[18]),
         reserved_zero_future_use_6: byte(v[19]),
         scrambling_sequence_index: option32(v[20], v[21]),
@@ -106,5 +113,6 @@ pub(crate) fn record(v: &[u32; 45]) -> S2Xv2SatelliteDeliverySystem {
         secondary_delivery_system_ids: [v[25], v[26]],
         num_channel_bonds: byte(v[27]),
         superframe: superframe_if(v),
+        ..core(v)
     }
 }
