@@ -48,14 +48,14 @@ fn accepted(staged: [u8; 257], n: usize, d: usize) -> Begun
     ensures { λ b. ⌜ begunSeen b ≡ record { told = 0 ∷ (n + 2) ∷ []; job = jobOf staged n d 0 } ⌝ }
 {
     let job = Job {
-        staged: staged,
+        staged,
         slot_size: n,
         descriptor_size: d,
         stores_made: 0,
     };
     Begun {
         answer: Answer::Accepted(n + 2),
-        job: job,
+        job,
     }
 }
 

@@ -58,10 +58,10 @@ fn accepted(made: usize, stores: usize, done: bool) -> Moved
     ensures { λ r. ⌜ r ≡ record { made = made; answer = Accepted; stores = stores; done = done } ⌝ }
 {
     Moved {
-        made: made,
+        made,
         answer: StepAnswer::Accepted,
-        stores: stores,
-        done: done,
+        stores,
+        done,
     }
 }
 
@@ -70,7 +70,7 @@ fn refused(made: usize) -> Moved
     ensures { λ r. ⌜ r ≡ record { made = made; answer = OtherSize; stores = 0; done = false } ⌝ }
 {
     Moved {
-        made: made,
+        made,
         answer: StepAnswer::OtherSize,
         stores: 0,
         done: false,

@@ -51,8 +51,8 @@ impl Job {
         let mut job = self;
         job.stores_made = moved.made;
         Stepped {
-            job: job,
-            answer: answer,
+            job,
+            answer,
             stores: moved.stores,
             done: moved.done,
         }

@@ -46,7 +46,7 @@ fn without(answer: SlotAnswer) -> SlotRead
     ensures { λ r. ⌜ r ≡ record { answer = answer; body = defaultRecord } ⌝ }
 {
     SlotRead {
-        answer: answer,
+        answer,
         body: S2Xv2SatelliteDeliverySystem::default(),
     }
 }
