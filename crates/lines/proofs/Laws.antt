@@ -1,9 +1,10 @@
 -- Laws of `write`: text after text is one text (`write-append`), so that calls one after the other write what is joined (`then2`,
--- `then3`, `then4`); nothing is written by a call that is not made (`nothing`). Assumes nothing.
+-- `then3`, `then4`); nothing is written by a call that is not made (`nothing`); `words-more` numbers are those before and one more. Assumes nothing.
 use Prim.Native.Nat.{ℕ}
 use mathlib.Core.Path.{_≡_, refl, sym, _∙_, ap, subst}
-use mathlib.Core.List.{List, [], _∷_, _++_}
+use mathlib.Core.List.{List, [], _∷_, _++_, append-nil, append-assoc}
 use Rattle.lines.specs.Out.{Out, write, joined, Wrote}
+use Rattle.lines.specs.Line.{wordOf, wordsOf}
 
 pub write-append : (a b : List ℕ) (o : Out) → write o (a ++ b) ≡ write (write o a) b
 unfolding write
@@ -36,3 +37,8 @@ then3 {o} {p} {q} {r} {a} {b} {c} e f g = more (b ∷ c ∷ []) e (then2 f g)
 pub then4 : {o p q r s : Out} {a b c d : List ℕ} → Wrote o a p → Wrote p b q → Wrote q c r → Wrote r d s
     → Wrote o (joined (a ∷ b ∷ c ∷ d ∷ [])) s
 then4 {o} {p} {q} {r} {s} {a} {b} {c} {d} e f g h = more (b ∷ c ∷ d ∷ []) e (then3 f g h)
+
+pub words-more : (ns : List ℕ) (n : ℕ) → wordsOf (ns ++ (n ∷ [])) ≡ wordsOf ns ++ wordOf n
+unfolding wordsOf joined
+words-more [] n = append-nil (wordOf n)
+words-more (m ∷ ns) n = ap (λ (t : List ℕ). wordOf m ++ t) (words-more ns n) ∙ sym (append-assoc (wordOf m) (wordsOf ns) (wordOf n))

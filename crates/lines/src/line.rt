@@ -1,6 +1,5 @@
 // The lines of a dump.
 ghost use mathlib.Core.Path.{_≡_};
-ghost use mathlib.Core.List.{_∷_, []};
 ghost use Rattle.wire.specs.Flags.{bit};
 ghost use Rattle.lines.specs.Out.{_from_, Wrote};
 ghost use Rattle.lines.specs.Line.{lineOf, wordOf, wordsOf};
@@ -54,36 +53,15 @@ pub fn word(out: &mut [u8], at: usize, n: u64) -> usize
     decimal(out, at, n)
 }
 
-// One number, as the only one.
-pub fn words1(out: &mut [u8], at: usize, a: u64) -> usize
-    ensures { λ r. ⌜ Wrote (now (out .entry) from at) (wordsOf (a ∷ [])) (now (out .exit) from r) ⌝ }
+// Some numbers, one after the other.
+pub fn words(out: &mut [u8], at: usize, numbers: &[u64]) -> usize
+    ensures { λ r. ⌜ Wrote (now (out .entry) from at) (wordsOf (now (numbers .entry))) (now (out .exit) from r) ⌝ }
 {
-    word(out, at, a)
-}
-
-// Two numbers.
-pub fn words2(out: &mut [u8], at: usize, a: u64, b: u64) -> usize
-    ensures { λ r. ⌜ Wrote (now (out .entry) from at) (wordsOf (a ∷ b ∷ [])) (now (out .exit) from r) ⌝ }
-{
-    let at = word(out, at, a);
-    word(out, at, b)
-}
-
-// Three numbers.
-pub fn words3(out: &mut [u8], at: usize, a: u64, b: u64, c: u64) -> usize
-    ensures { λ r. ⌜ Wrote (now (out .entry) from at) (wordsOf (a ∷ b ∷ c ∷ [])) (now (out .exit) from r) ⌝ }
-{
-    let at = word(out, at, a);
-    let at = word(out, at, b);
-    word(out, at, c)
-}
-
-// Four numbers.
-pub fn words4(out: &mut [u8], at: usize, a: u64, b: u64, c: u64, d: u64) -> usize
-    ensures { λ r. ⌜ Wrote (now (out .entry) from at) (wordsOf (a ∷ b ∷ c ∷ d ∷ [])) (now (out .exit) from r) ⌝ }
-{
-    let at = word(out, at, a);
-    let at = word(out, at, b);
-    let at = word(out, at, c);
-    word(out, at, d)
+    let mut next = at;
+    let mut i = 0;
+    while i < numbers.len() {
+        next = word(out, next, numbers[i]);
+        i += 1;
+    }
+    next
 }

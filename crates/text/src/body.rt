@@ -7,10 +7,7 @@ use crate::core::core;
 use crate::parts::parts;
 use crate::superframe::superframe;
 use lines::line::line;
-use lines::line::words1;
-use lines::line::words2;
-use lines::line::words3;
-use lines::line::words4;
+use lines::line::words;
 use lines::put::copy;
 use lines::put::put;
 use s2xv2::answer::Answer;
@@ -22,21 +19,18 @@ fn numbers(out: &mut [u8], at: usize, why: Refusal) -> usize
     ensures { λ n. ⌜ Wrote (now (out .entry) from at) (wordsOf (Answer·numbers why)) (now (out .exit) from n) ⌝ }
 {
     match why {
-        Refusal::Short { place, need, have } => words4(
+        Refusal::Short { place, need, have } => words(
             out,
             at,
-            1,
-            place as u64,
-            need as u64,
-            have as u64,
+            &[1, place as u64, need as u64, have as u64],
         ),
-        Refusal::Long { length } => words2(out, at, 2, length as u64),
-        Refusal::Inconsistent { place } => words2(out, at, 3, place as u64),
-        Refusal::Field { place } => words2(out, at, 4, place as u64),
-        Refusal::Room { need, have } => words3(out, at, 5, need as u64, have as u64),
-        Refusal::Slot => words1(out, at, 6),
-        Refusal::NoFit { size } => words2(out, at, 7, size as u64),
-        Refusal::OtherSize => words1(out, at, 8),
+        Refusal::Long { length } => words(out, at, &[2, length as u64]),
+        Refusal::Inconsistent { place } => words(out, at, &[3, place as u64]),
+        Refusal::Field { place } => words(out, at, &[4, place as u64]),
+        Refusal::Room { need, have } => words(out, at, &[5, need as u64, have as u64]),
+        Refusal::Slot => words(out, at, &[6]),
+        Refusal::NoFit { size } => words(out, at, &[7, size as u64]),
+        Refusal::OtherSize => words(out, at, &[8]),
     }
 }
 

@@ -7,135 +7,167 @@ use Rattle.text.proofs.body.numbers.Tie as tie
 enum-known-why : tie.Need-enum-known-why
 enum-known-why c = search needs
 
-cast-words4 : tie.Need-cast-words4
-cast-words4 c = search needs
+cast-t19 : tie.Need-cast-t19
+cast-t19 c = search needs
 
-words4-requires : tie.Need-words4-requires
-words4-requires c κs = search needs
+slice-aggregate-words : tie.Need-slice-aggregate-words
+slice-aggregate-words c = search needs
+
+words-requires : tie.Need-words-requires
+words-requires c κs = search needs
 
 enum-known-why-2 : tie.Need-enum-known-why-2
 enum-known-why-2 c = search needs
 
-cast-words2 : tie.Need-cast-words2
-cast-words2 c = search needs
+cast-t27 : tie.Need-cast-t27
+cast-t27 c = search needs
 
-words2-requires : tie.Need-words2-requires
-words2-requires c κs = search needs
+slice-aggregate-words-2 : tie.Need-slice-aggregate-words-2
+slice-aggregate-words-2 c = search needs
+
+words-requires-2 : tie.Need-words-requires-2
+words-requires-2 c κs = search needs
 
 enum-known-why-3 : tie.Need-enum-known-why-3
 enum-known-why-3 c = search needs
 
-cast-words2-2 : tie.Need-cast-words2-2
-cast-words2-2 c = search needs
+cast-t33 : tie.Need-cast-t33
+cast-t33 c = search needs
 
-words2-requires-2 : tie.Need-words2-requires-2
-words2-requires-2 c κs = search needs
+slice-aggregate-words-3 : tie.Need-slice-aggregate-words-3
+slice-aggregate-words-3 c = search needs
+
+words-requires-3 : tie.Need-words-requires-3
+words-requires-3 c κs = search needs
 
 enum-known-why-4 : tie.Need-enum-known-why-4
 enum-known-why-4 c = search needs
 
-cast-words2-3 : tie.Need-cast-words2-3
-cast-words2-3 c = search needs
+cast-t39 : tie.Need-cast-t39
+cast-t39 c = search needs
 
-words2-requires-3 : tie.Need-words2-requires-3
-words2-requires-3 c κs = search needs
+slice-aggregate-words-4 : tie.Need-slice-aggregate-words-4
+slice-aggregate-words-4 c = search needs
+
+words-requires-4 : tie.Need-words-requires-4
+words-requires-4 c κs = search needs
 
 enum-known-why-5 : tie.Need-enum-known-why-5
 enum-known-why-5 c = search needs
 
-words3-requires : tie.Need-words3-requires
-words3-requires c κs = search needs
+slice-aggregate-words-5 : tie.Need-slice-aggregate-words-5
+slice-aggregate-words-5 c = search needs
+
+words-requires-5 : tie.Need-words-requires-5
+words-requires-5 c κs = search needs
 
 enum-told : tie.Need-enum-told
 enum-told c = search needs
 
-words1-requires : tie.Need-words1-requires
-words1-requires c κs = search needs
+slice-aggregate-words-6 : tie.Need-slice-aggregate-words-6
+slice-aggregate-words-6 c = search needs
+
+words-requires-6 : tie.Need-words-requires-6
+words-requires-6 c κs = search needs
 
 enum-known-why-6 : tie.Need-enum-known-why-6
 enum-known-why-6 c = search needs
 
-words2-requires-4 : tie.Need-words2-requires-4
-words2-requires-4 c κs = search needs
+slice-aggregate-words-7 : tie.Need-slice-aggregate-words-7
+slice-aggregate-words-7 c = search needs
+
+words-requires-7 : tie.Need-words-requires-7
+words-requires-7 c κs = search needs
 
 enum-told-2 : tie.Need-enum-told-2
 enum-told-2 c = search needs
 
-words1-requires-2 : tie.Need-words1-requires-2
-words1-requires-2 c κs = search needs
+slice-aggregate-words-8 : tie.Need-slice-aggregate-words-8
+slice-aggregate-words-8 c = search needs
+
+words-requires-8 : tie.Need-words-requires-8
+words-requires-8 c κs = search needs
 
 same-length : tie.Need-same-length
 same-length c = search needs
 
 returns : tie.Need-returns
-returns c = rw (c .before .before .before .before .before .why .given .1) (c .before .before .words4 .ensures)
+returns c = rw (c .before .before .before .before .before .before .why .given .1) (c .before .before .words .ensures)
 
 same-length-2 : tie.Need-same-length-2
 same-length-2 c = search needs
 
 returns-2 : tie.Need-returns-2
-returns-2 c = rw (c .before .before .before .before .before .why2 .given .1) (c .before .before .words2 .ensures)
+returns-2 c = rw (c .before .before .before .before .before .before .why2 .given .1) (c .before .before .words2 .ensures)
 
 same-length-3 : tie.Need-same-length-3
 same-length-3 c = search needs
 
 returns-3 : tie.Need-returns-3
-returns-3 c = rw (c .before .before .before .before .before .why3 .given .1) (c .before .before .words22 .ensures)
+returns-3 c = rw (c .before .before .before .before .before .before .why3 .given .1) (c .before .before .words3 .ensures)
 
 same-length-4 : tie.Need-same-length-4
 same-length-4 c = search needs
 
 returns-4 : tie.Need-returns-4
-returns-4 c = rw (c .before .before .before .before .before .why4 .given .1) (c .before .before .words23 .ensures)
+returns-4 c = rw (c .before .before .before .before .before .before .why4 .given .1) (c .before .before .words4 .ensures)
 
 same-length-5 : tie.Need-same-length-5
 same-length-5 c = search needs
 
 returns-5 : tie.Need-returns-5
-returns-5 c = rw (c .before .before .before .before .before .why5 .given .1) (c .before .before .words3 .ensures)
+returns-5 c = rw (c .before .before .before .before .before .before .why5 .given .1) (c .before .before .words5 .ensures)
 
 same-length-6 : tie.Need-same-length-6
 same-length-6 c = search needs
 
 returns-6 : tie.Need-returns-6
-returns-6 c = rw (c .before .before .before .before .enum-told .given .1) (c .before .before .words1 .ensures)
+returns-6 c = rw (c .before .before .before .before .before .enum-told .given .1) (c .before .before .words6 .ensures)
 
 same-length-7 : tie.Need-same-length-7
 same-length-7 c = search needs
 
 returns-7 : tie.Need-returns-7
-returns-7 c = rw (c .before .before .before .before .before .why6 .given .1) (c .before .before .words24 .ensures)
+returns-7 c = rw (c .before .before .before .before .before .before .why6 .given .1) (c .before .before .words7 .ensures)
 
 same-length-8 : tie.Need-same-length-8
 same-length-8 c = search needs
 
 returns-8 : tie.Need-returns-8
-returns-8 c = rw (c .before .before .before .before .enum-told2 .given .1) (c .before .before .words12 .ensures)
+returns-8 c = rw (c .before .before .before .before .before .enum-told2 .given .1) (c .before .before .words8 .ensures)
 
 pub numbers-spec : {M : Type 1} → statement M
 numbers-spec =
     tie.close
     (tie.spec
     enum-known-why
-    cast-words4
-    words4-requires
+    cast-t19
+    slice-aggregate-words
+    words-requires
     enum-known-why-2
-    cast-words2
-    words2-requires
+    cast-t27
+    slice-aggregate-words-2
+    words-requires-2
     enum-known-why-3
-    cast-words2-2
-    words2-requires-2
+    cast-t33
+    slice-aggregate-words-3
+    words-requires-3
     enum-known-why-4
-    cast-words2-3
-    words2-requires-3
+    cast-t39
+    slice-aggregate-words-4
+    words-requires-4
     enum-known-why-5
-    words3-requires
+    slice-aggregate-words-5
+    words-requires-5
     enum-told
-    words1-requires
+    slice-aggregate-words-6
+    words-requires-6
     enum-known-why-6
-    words2-requires-4
+    slice-aggregate-words-7
+    words-requires-7
     enum-told-2
-    words1-requires-2
+    slice-aggregate-words-8
+    words-requires-8
     same-length
     returns
     same-length-2
