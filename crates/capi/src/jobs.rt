@@ -11,7 +11,7 @@ ghost use Rattle.capi.specs.Job.{numberIn, advancedOut, steppedOut, move
 use flat::input::is_valid;
 use flat::input::record_in;
 use flat::output::answer_out;
-use flat::output::foreign;
+use flat::types::FOREIGN;
 use flat::types::FlatAnswer;
 use flat::types::FlatRecord;
 use job::job::Job;
@@ -56,7 +56,7 @@ pub extern "C" fn s2xv2_begin(s: &[u8], r: FlatRecord, reserved_tail: &[u8]) -> 
         }
     } else {
         FlatBegun {
-            answer: foreign(),
+            answer: FOREIGN,
             job: begin::no_job(),
         }
     }

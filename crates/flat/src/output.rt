@@ -4,7 +4,6 @@ ghost use Rattle.wire.specs.Flags.{bit};
 ghost use Rattle.s2xv2.specs.Options.{isSomeBool, isSome8, isSome32, isSomeSuperframe};
 ghost use Rattle.s2xv2.specs.Answer.{numbers, told};
 ghost use Rattle.flat.specs.Core.{coreOf};
-ghost use Rattle.flat.specs.Input.{foreign};
 ghost use Rattle.flat.specs.Output.{answerOut, isReserved, superframeOut, recordOut};
 use crate::types::FlatAnswer;
 use crate::types::FlatRecord;
@@ -201,11 +200,4 @@ pub fn record_out(r: S2Xv2SatelliteDeliverySystem) -> FlatRecord
         has_superframe: has_superframe(superframe),
         ..core_out(r)
     }
-}
-
-// What is answered where nothing that a record could hold came in.
-pub fn foreign() -> FlatAnswer
-    ensures { λ r. ⌜ r ≡ foreign ⌝ }
-{
-    answer_of(100, 0, 0, 0)
 }

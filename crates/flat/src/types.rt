@@ -9,6 +9,14 @@ pub struct FlatAnswer {
     pub third: usize,
 }
 
+// What is answered where nothing that a record could hold came in: a number above all that the library has.
+pub const FOREIGN: FlatAnswer = FlatAnswer {
+    number: 100,
+    first: 0,
+    second: 0,
+    third: 0,
+};
+
 // A superframe block.
 #[repr(C)]
 pub struct FlatSuperframe {

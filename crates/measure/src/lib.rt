@@ -13,8 +13,8 @@ use flat::input::is_valid;
 use flat::input::record_in;
 use flat::output::answer_of;
 use flat::output::answer_out;
-use flat::output::foreign;
 use flat::output::record_out;
+use flat::types::FOREIGN;
 use flat::types::FlatAnswer;
 use flat::types::FlatRecord;
 use lists::list_a::inconsistency;
@@ -124,7 +124,7 @@ pub fn serialized_len_flat(c: FlatRecord, reserved_tail: &[u8]) -> FlatAnswer
             answer_of(0, need, 0, 0)
         }
     } else {
-        foreign()
+        FOREIGN
     }
 }
 
@@ -140,6 +140,6 @@ pub fn write_answer_flat(c: FlatRecord, reserved_tail: &[u8], room: usize) -> Fl
             answer_of(0, need, 0, 0)
         }
     } else {
-        foreign()
+        FOREIGN
     }
 }

@@ -24,9 +24,6 @@ answer-out-requires c κs = search needs
 answer-of-requires : tie.Need-answer-of-requires
 answer-of-requires c κs = search needs
 
-foreign-requires : tie.Need-foreign-requires
-foreign-requires c κs = search needs
-
 returns : tie.Need-returns
 returns c = simp (c .answer-out .ensures, c .before .judged-len .ensures, sym (c .before .before .before .before .before .is-valid .ensures) ∙ c .before .before .before .before .if1 .taken)
 
@@ -34,7 +31,7 @@ returns-2 : tie.Need-returns-2
 returns-2 c = let a = c .before .before .before .before .before .before .args in simp (c .answer-of .ensures, sym (c .before .before .before .before .is-valid .ensures) ∙ c .before .before .before .if1 .taken, sym (length-accepted (recordIn (a .c)) (now (a .reserved-tail)) 4096 _ (c .before .before .ready-len .ensures (c .before .if2 .left))))
 
 returns-3 : tie.Need-returns-3
-returns-3 c = simp (c .foreign .ensures, sym (c .before .before .is-valid .ensures) ∙ c .before .if1 .left)
+returns-3 c = simp (sym (c .before .is-valid .ensures) ∙ c .if1 .left)
 
 pub serialized-len-flat-spec : {M : Type 1} → statement M
 serialized-len-flat-spec =
@@ -45,7 +42,6 @@ serialized-len-flat-spec =
     judged-len-requires
     answer-out-requires
     answer-of-requires
-    foreign-requires
     returns
     returns-2
     returns-3)

@@ -24,9 +24,6 @@ answer-out-requires c κs = search needs
 answer-of-requires : tie.Need-answer-of-requires
 answer-of-requires c κs = search needs
 
-foreign-requires : tie.Need-foreign-requires
-foreign-requires c κs = search needs
-
 returns : tie.Need-returns
 returns c = simp (c .answer-out .ensures, c .before .judged .ensures, sym (c .before .before .before .before .before .is-valid .ensures) ∙ c .before .before .before .before .if1 .taken)
 
@@ -34,7 +31,7 @@ returns-2 : tie.Need-returns-2
 returns-2 c = let a = c .before .before .before .before .before .before .args in simp (c .answer-of .ensures, sym (c .before .before .before .before .is-valid .ensures) ∙ c .before .before .before .if1 .taken, sym (write-accepted (recordIn (a .c)) (now (a .reserved-tail)) (a .room) _ (c .before .before .ready-len .ensures (c .before .if2 .left))))
 
 returns-3 : tie.Need-returns-3
-returns-3 c = simp (c .foreign .ensures, sym (c .before .before .is-valid .ensures) ∙ c .before .if1 .left)
+returns-3 c = simp (sym (c .before .is-valid .ensures) ∙ c .if1 .left)
 
 pub write-answer-flat-spec : {M : Type 1} → statement M
 write-answer-flat-spec =
@@ -45,7 +42,6 @@ write-answer-flat-spec =
     judged-requires
     answer-out-requires
     answer-of-requires
-    foreign-requires
     returns
     returns-2
     returns-3)

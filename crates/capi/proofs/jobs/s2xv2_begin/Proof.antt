@@ -18,9 +18,6 @@ begin-requires c κs = search needs
 answer-out-requires : tie.Need-answer-out-requires
 answer-out-requires c κs = search needs
 
-foreign-requires : tie.Need-foreign-requires
-foreign-requires c κs = search needs
-
 no-job-requires : tie.Need-no-job-requires
 no-job-requires c κs = search needs
 
@@ -32,8 +29,8 @@ returns c =
 
 returns-2 : tie.Need-returns-2
 returns-2 c =
-    let v = sym (c .before .before .before .is-valid .ensures) ∙ c .before .before .if1 .left in
-    (simp (v, c .before .foreign .ensures), simp (v, c .no-job .ensures))
+    let v = sym (c .before .before .is-valid .ensures) ∙ c .before .if1 .left in
+    (simp v, simp (v, c .no-job .ensures))
 
 pub s2xv2-begin-spec : {M : Type 1} → statement M
 s2xv2-begin-spec =
@@ -43,7 +40,6 @@ s2xv2-begin-spec =
     record-in-requires
     begin-requires
     answer-out-requires
-    foreign-requires
     no-job-requires
     returns
     returns-2)
