@@ -1,5 +1,6 @@
 -- What the writer's quick tests find of numbers that cross: `Agrees`, `CoreFits`, `ScramblingFits`, `BondsFit`, `BlockFits` and `SuperframeFits`. `dueIn` is what
--- a mode asks for, and `dueOf` the mode of a code. `Checked` says of a record that it passes both lists, and `Ready` that nothing is refused. Assumes nothing.
+-- a mode asks for, and `dueOf` the mode of a code. `Checked` says of a record that it passes both lists, `Accepts` that nothing is refused,
+-- and `Ready` that this is so unless the number is 0. Assumes nothing.
 use mathlib.Core.Path.{_≡_}
 use mathlib.Core.List.{List}
 use Prim.Native.Nat.{ℕ, _+_, _*_, _<_, _≤_}
