@@ -26,7 +26,13 @@ returns-2 c = λ n. absurd (n refl)
 
 returns-3 : tie.Need-returns-3
 unfolding encodedLength
-returns-3 c = λ n. record { lists = c .before .before .before .before .is-checked .ensures (c .before .before .before .if1 .taken); size = ap (λ (k : ℕ). k + length (now (c .before .before .before .before .before .before .args .tail))) (c .before .before .parts-len .ensures .0); within = c .before .if2 .left; fits = c .if3 .left }
+returns-3 c =
+    λ n. record {
+      lists = c .before .before .before .before .is-checked .ensures (c .before .before .before .if1 .taken);
+      size = ap (λ (k : ℕ). k + length (now (c .before .before .before .before .before .before .args .tail))) (c .before .before .parts-len .ensures .0);
+      within = c .before .if2 .left;
+      fits = c .if3 .left;
+    }
 
 returns-4 : tie.Need-returns-4
 returns-4 c = λ n. absurd (n refl)

@@ -25,7 +25,9 @@ returns : tie.Need-returns
 returns c = let a = c .before .before .before .before .before .args in c .judged-len .ensures ∙ ap (λ (r : S2Xv2SatelliteDeliverySystem). lengthTold r (now (a .reserved-tail))) (ap recordIn (c .before .before .before .record-out .ensures) ∙ back (a .r))
 
 returns-2 : tie.Need-returns-2
-returns-2 c = let a = c .before .before .before .before .args in length-accepted _ (now (a .reserved-tail)) 4096 _ (c .before .ready-len .ensures (c .if1 .left)) ∙ ap (λ (r : S2Xv2SatelliteDeliverySystem). lengthTold r (now (a .reserved-tail))) (ap recordIn (c .before .before .record-out .ensures) ∙ back (a .r))
+returns-2 c =
+    let a = c .before .before .before .before .args in
+    length-accepted _ (now (a .reserved-tail)) 4096 _ (c .before .ready-len .ensures (c .if1 .left)) ∙ ap (λ (r : S2Xv2SatelliteDeliverySystem). lengthTold r (now (a .reserved-tail))) (ap recordIn (c .before .before .record-out .ensures) ∙ back (a .r))
 
 pub serialized-len-spec : {M : Type 1} → statement M
 serialized-len-spec =

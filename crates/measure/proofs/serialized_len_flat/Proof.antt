@@ -28,7 +28,13 @@ returns : tie.Need-returns
 returns c = simp (c .answer-out .ensures, c .before .judged-len .ensures, sym (c .before .before .before .before .before .is-valid .ensures) ∙ c .before .before .before .before .if1 .taken)
 
 returns-2 : tie.Need-returns-2
-returns-2 c = let a = c .before .before .before .before .before .before .args in simp (c .answer-of .ensures, sym (c .before .before .before .before .is-valid .ensures) ∙ c .before .before .before .if1 .taken, sym (length-accepted (recordIn (a .c)) (now (a .reserved-tail)) 4096 _ (c .before .before .ready-len .ensures (c .before .if2 .left))))
+returns-2 c =
+    let a = c .before .before .before .before .before .before .args in
+    simp (
+      c .answer-of .ensures,
+      sym (c .before .before .before .before .is-valid .ensures) ∙ c .before .before .before .if1 .taken,
+      sym (length-accepted (recordIn (a .c)) (now (a .reserved-tail)) 4096 _ (c .before .before .ready-len .ensures (c .before .if2 .left))),
+    )
 
 returns-3 : tie.Need-returns-3
 returns-3 c = simp (sym (c .before .is-valid .ensures) ∙ c .if1 .left)

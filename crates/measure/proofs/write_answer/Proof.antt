@@ -22,10 +22,14 @@ judged-requires : tie.Need-judged-requires
 judged-requires c κs = rw (c .before .before .record-out .ensures) (flagged _ (out-valid (c .before .before .before .before .args .r)))
 
 returns : tie.Need-returns
-returns c = let a = c .before .before .before .before .before .args in c .judged .ensures ∙ ap (λ (r : S2Xv2SatelliteDeliverySystem). writeTold r (now (a .reserved-tail)) (a .room)) (ap recordIn (c .before .before .before .record-out .ensures) ∙ back (a .r))
+returns c =
+    let a = c .before .before .before .before .before .args in
+    c .judged .ensures ∙ ap (λ (r : S2Xv2SatelliteDeliverySystem). writeTold r (now (a .reserved-tail)) (a .room)) (ap recordIn (c .before .before .before .record-out .ensures) ∙ back (a .r))
 
 returns-2 : tie.Need-returns-2
-returns-2 c = let a = c .before .before .before .before .args in write-accepted _ (now (a .reserved-tail)) (a .room) _ (c .before .ready-len .ensures (c .if1 .left)) ∙ ap (λ (r : S2Xv2SatelliteDeliverySystem). writeTold r (now (a .reserved-tail)) (a .room)) (ap recordIn (c .before .before .record-out .ensures) ∙ back (a .r))
+returns-2 c =
+    let a = c .before .before .before .before .args in
+    write-accepted _ (now (a .reserved-tail)) (a .room) _ (c .before .ready-len .ensures (c .if1 .left)) ∙ ap (λ (r : S2Xv2SatelliteDeliverySystem). writeTold r (now (a .reserved-tail)) (a .room)) (ap recordIn (c .before .before .record-out .ensures) ∙ back (a .r))
 
 pub write-answer-spec : {M : Type 1} → statement M
 write-answer-spec =

@@ -47,15 +47,17 @@ same-length c = search needs
 
 returns : tie.Need-returns
 returns c =
+    let write-answer = c .before .before .before .before .before .before .before .write-answer in
     let a = c .before .before .before .before .before .before .before .before .before .before .args in
     let t = now (a .reserved-tail) in
     let e = ap recordIn (c .before .before .before .record-out .ensures) ∙ back (a .r) in
-    (c .before .before .before .before .before .before .before .write-answer .ensures, c .before .before .put-all .ensures ∙ ap (λ (r : S2Xv2SatelliteDeliverySystem). encode r t ++ drop (encodedLength r t) (now (a .buf))) e ∙ sym (written-accepted (a .r) t (now (a .buf)) _ (sym (ap told (c .before .before .before .before .before .enum-told .given .1)) ∙ c .before .before .before .before .before .before .before .write-answer .ensures)))
+    (write-answer .ensures, c .before .before .put-all .ensures ∙ ap (λ (r : S2Xv2SatelliteDeliverySystem). encode r t ++ drop (encodedLength r t) (now (a .buf))) e ∙ sym (written-accepted (a .r) t (now (a .buf)) _ (sym (ap told (c .before .before .before .before .before .enum-told .given .1)) ∙ write-answer .ensures)))
 
 returns-2 : tie.Need-returns-2
 returns-2 c =
+    let write-answer = c .before .before .write-answer in
     let a = c .before .before .before .before .before .args in
-    (c .before .before .write-answer .ensures, sym (written-refused (a .r) (now (a .reserved-tail)) (now (a .buf)) (c .enum-told2 .given .0 .0) (sym (ap told (c .enum-told2 .given .1)) ∙ c .before .before .write-answer .ensures)))
+    (write-answer .ensures, sym (written-refused (a .r) (now (a .reserved-tail)) (now (a .buf)) (c .enum-told2 .given .0 .0) (sym (ap told (c .enum-told2 .given .1)) ∙ write-answer .ensures)))
 
 pub serialize-into-spec : {M : Type 1} → statement M
 serialize-into-spec =

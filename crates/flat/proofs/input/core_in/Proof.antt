@@ -23,7 +23,15 @@ default-requires : tie.Need-default-requires
 default-requires c κs = search needs
 
 returns : tie.Need-returns
-returns c = simp (c .before .default .ensures, c .before .before .bool-in .ensures, c .before .before .before .is-one3 .ensures, c .before .before .before .before .is-one2 .ensures, c .before .before .before .before .before .is-one .ensures, c .before .before .before .before .before .before .mode-in .ensures)
+returns c =
+    simp (
+      c .before .default .ensures,
+      c .before .before .bool-in .ensures,
+      c .before .before .before .is-one3 .ensures,
+      c .before .before .before .before .is-one2 .ensures,
+      c .before .before .before .before .before .is-one .ensures,
+      c .before .before .before .before .before .before .mode-in .ensures,
+    )
 
 pub core-in-spec : {M : Type 1} → statement M
 core-in-spec =

@@ -27,15 +27,26 @@ is-named-requires c κs = search needs
 returns : tie.Need-returns
 unfolding valid
 returns c =
+    let record-flags = c .before .before .before .before .record-flags in
+    let block-flags = c .before .before .before .block-flags in
     let r = c .before .before .before .before .before .before .args .c in
-    let e : and (flags (recordFlags r)) (flags (blockFlags (r .superframe))) ≡ true = simp (sym (c .before .before .before .before .record-flags .ensures), sym (c .before .before .before .block-flags .ensures)) (sym (joined-below 1 (c .before .before .before .before .record-flags .result) (c .before .before .before .block-flags .result)) ∙ ap (λ (x : ℕ). ltb x 2) (sym (c .before .before .joined .ensures)) ∙ lt-ltb _ _ (c .before .if1 .taken)) in
+    let e : and (flags (recordFlags r)) (flags (blockFlags (r .superframe))) ≡ true = simp (
+      sym (record-flags .ensures),
+      sym (block-flags .ensures),
+    )
+    (sym (joined-below 1 (record-flags .result) (block-flags .result)) ∙ ap (λ (x : ℕ). ltb x 2) (sym (c .before .before .joined .ensures)) ∙ lt-ltb _ _ (c .before .if1 .taken)) in
     simp (c .is-named .ensures, sym (and-assoc (flags (recordFlags r)) (flags (blockFlags (r .superframe))) (named (r .«mode_is_reserved») (r .«s2xv2_mode»))), e)
 
 returns-2 : tie.Need-returns-2
 unfolding valid
 returns-2 c =
+    let record-flags = c .before .before .before .record-flags in
     let r = c .before .before .before .before .before .args .c in
-    let e : and (flags (recordFlags r)) (flags (blockFlags (r .superframe))) ≡ false = simp (sym (c .before .before .before .record-flags .ensures), sym (c .before .before .block-flags .ensures)) (sym (joined-below 1 (c .before .before .before .record-flags .result) (c .before .before .block-flags .result)) ∙ ap (λ (x : ℕ). ltb x 2) (sym (c .before .joined .ensures)) ∙ le-ltb _ _ (c .if1 .left)) in
+    let e : and (flags (recordFlags r)) (flags (blockFlags (r .superframe))) ≡ false = simp (
+      sym (record-flags .ensures),
+      sym (c .before .before .block-flags .ensures),
+    )
+    (sym (joined-below 1 (record-flags .result) (c .before .before .block-flags .result)) ∙ ap (λ (x : ℕ). ltb x 2) (sym (c .before .joined .ensures)) ∙ le-ltb _ _ (c .if1 .left)) in
     simp (sym (and-assoc (flags (recordFlags r)) (flags (blockFlags (r .superframe))) (named (r .«mode_is_reserved») (r .«s2xv2_mode»))), e)
 
 pub is-valid-spec : {M : Type 1} → statement M

@@ -33,7 +33,21 @@ joined-requires-9 : tie.Need-joined-requires-9
 joined-requires-9 c κs = search needs
 
 returns : tie.Need-returns
-returns c = simp (c .joined9 .ensures, c .before .joined8 .ensures, c .before .before .joined7 .ensures, c .before .before .before .joined6 .ensures, c .before .before .before .before .joined5 .ensures, c .before .before .before .before .before .joined4 .ensures, c .before .before .before .before .before .before .joined3 .ensures, c .before .before .before .before .before .before .before .joined2 .ensures, c .before .before .before .before .before .before .before .before .joined .ensures, joined-below 1, and-assoc, and-true)
+returns c =
+    simp (
+      c .joined9 .ensures,
+      c .before .joined8 .ensures,
+      c .before .before .joined7 .ensures,
+      c .before .before .before .joined6 .ensures,
+      c .before .before .before .before .joined5 .ensures,
+      c .before .before .before .before .before .joined4 .ensures,
+      c .before .before .before .before .before .before .joined3 .ensures,
+      c .before .before .before .before .before .before .before .joined2 .ensures,
+      c .before .before .before .before .before .before .before .before .joined .ensures,
+      joined-below 1,
+      and-assoc,
+      and-true,
+    )
 
 pub record-flags-spec : {M : Type 1} → statement M
 record-flags-spec =

@@ -32,7 +32,18 @@ core-out-requires : tie.Need-core-out-requires
 core-out-requires c κs = search needs
 
 returns : tie.Need-returns
-returns c = simp (c .core-out .ensures, c .before .has-superframe .ensures, c .before .before .or-zero3 .ensures, c .before .before .before .has-u82 .ensures, c .before .before .before .before .has-u32 .ensures, c .before .before .before .before .before .or-zero2 .ensures, c .before .before .before .before .before .before .has-u8 .ensures, c .before .before .before .before .before .before .before .superframe-out .ensures, c .before .before .before .before .before .before .before .before .or-zero .ensures)
+returns c =
+    simp (
+      c .core-out .ensures,
+      c .before .has-superframe .ensures,
+      c .before .before .or-zero3 .ensures,
+      c .before .before .before .has-u82 .ensures,
+      c .before .before .before .before .has-u32 .ensures,
+      c .before .before .before .before .before .or-zero2 .ensures,
+      c .before .before .before .before .before .before .has-u8 .ensures,
+      c .before .before .before .before .before .before .before .superframe-out .ensures,
+      c .before .before .before .before .before .before .before .before .or-zero .ensures,
+    )
 
 pub record-out-spec : {M : Type 1} → statement M
 record-out-spec =

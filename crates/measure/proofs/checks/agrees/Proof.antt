@@ -17,7 +17,14 @@ due-requires : tie.Need-due-requires
 due-requires c κs = search needs
 
 returns : tie.Need-returns
-returns c = λ e. let w1 = on-the-way (c .before .before .if1 .came) (λ l. l .1 ∙ ne-eqb _ _ (l .0 .left)) (c .before .if2 .taken) in record { stream = w1 .0 .taken; parts = sym (c .before .before .before .before .seen .ensures) ∙ eqb-true _ _ (sym (w1 .2) ∙ c .before .if2 .taken) ∙ w1 .1 .ensures; index = eqb-true _ _ e ∙ c .before .before .before .before .before .both .ensures .0 }
+returns c =
+    λ e.
+    let w1 = on-the-way (c .before .before .if1 .came) (λ l. l .1 ∙ ne-eqb _ _ (l .0 .left)) (c .before .if2 .taken) in
+    record {
+      stream = w1 .0 .taken;
+      parts = sym (c .before .before .before .before .seen .ensures) ∙ eqb-true _ _ (sym (w1 .2) ∙ c .before .if2 .taken) ∙ w1 .1 .ensures;
+      index = eqb-true _ _ e ∙ c .before .before .before .before .before .both .ensures .0;
+    }
 
 returns-2 : tie.Need-returns-2
 returns-2 c = λ e. never (sym (c .if2 .left) ∙ e)

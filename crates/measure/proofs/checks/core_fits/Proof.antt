@@ -20,7 +20,26 @@ joined-requires-3 : tie.Need-joined-requires-3
 joined-requires-3 c κs = search needs
 
 returns : tie.Need-returns
-returns c = λ e. let w4 = on-the-way (c .before .before .if4 .came) (λ l. l .1 ∙ l .0 .left) (c .before .if5 .taken) in let w3 = on-the-way (c .before .before .before .if3 .came) (λ l. l .1 ∙ l .0 .left) (w4 .0 .taken) in let w2 = on-the-way (c .before .before .before .before .if2 .came) (λ l. l .1 ∙ l .0 .left) (w3 .0 .taken) in let w1 = on-the-way (c .before .before .before .before .before .if1 .came) (λ l. l .1 ∙ le-ltb _ _ (l .0 .left)) (w2 .0 .taken) in let r = c .before .before .before .before .before .before .before .before .before .before .args .c in let q = four-joined (r .«reserved_zero_future_use_2») (r .«channel_bond») (r .polarization) (r .«ts_gs_s2x_mode») _ _ _ (c .before .before .before .before .before .before .before .before .before .joined .ensures) (c .before .before .before .before .before .before .before .before .joined2 .ensures) (c .before .before .before .before .before .before .joined3 .ensures) (w1 .0 .taken) in record { mode = ltb-true _ _ (sym (w1 .2) ∙ w2 .0 .taken); roll = ltb-true _ _ (sym (w2 .2) ∙ w3 .0 .taken); reserved = q .0; bond = q .1; polarization = q .2; top = rw (c .before .before .before .before .before .before .before .picked .ensures) at (ltb-true (c .before .before .before .before .before .before .before .picked .result) 2 (sym (w4 .1) ∙ c .before .if5 .taken)); tsgs = q .3; profiles = ltb-true _ _ (sym (w3 .2) ∙ w4 .0 .taken); satellite = ltb-true _ _ e }
+returns c =
+    let picked = c .before .before .before .before .before .before .before .picked in
+    λ e.
+    let w4 = on-the-way (c .before .before .if4 .came) (λ l. l .1 ∙ l .0 .left) (c .before .if5 .taken) in
+    let w3 = on-the-way (c .before .before .before .if3 .came) (λ l. l .1 ∙ l .0 .left) (w4 .0 .taken) in
+    let w2 = on-the-way (c .before .before .before .before .if2 .came) (λ l. l .1 ∙ l .0 .left) (w3 .0 .taken) in
+    let w1 = on-the-way (c .before .before .before .before .before .if1 .came) (λ l. l .1 ∙ le-ltb _ _ (l .0 .left)) (w2 .0 .taken) in
+    let r = c .before .before .before .before .before .before .before .before .before .before .args .c in
+    let q = four-joined (r .«reserved_zero_future_use_2») (r .«channel_bond») (r .polarization) (r .«ts_gs_s2x_mode») _ _ _ (c .before .before .before .before .before .before .before .before .before .joined .ensures) (c .before .before .before .before .before .before .before .before .joined2 .ensures) (c .before .before .before .before .before .before .joined3 .ensures) (w1 .0 .taken) in
+    record {
+      mode = ltb-true _ _ (sym (w1 .2) ∙ w2 .0 .taken);
+      roll = ltb-true _ _ (sym (w2 .2) ∙ w3 .0 .taken);
+      reserved = q .0;
+      bond = q .1;
+      polarization = q .2;
+      top = rw (picked .ensures) at (ltb-true (picked .result) 2 (sym (w4 .1) ∙ c .before .if5 .taken));
+      tsgs = q .3;
+      profiles = ltb-true _ _ (sym (w3 .2) ∙ w4 .0 .taken);
+      satellite = ltb-true _ _ e;
+    }
 
 returns-2 : tie.Need-returns-2
 returns-2 c = λ e. never (sym (c .if5 .left) ∙ e)

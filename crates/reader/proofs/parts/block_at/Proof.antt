@@ -82,6 +82,7 @@ field-requires-4 c κs = search needs
 returns : tie.Need-returns
 unfolding flatBlockAt
 returns c =
+    let start = c .before .before .before .before .before .before .before .before .before .before .before .before .before .before .before .before .before .before .before .before .before in
     simp (
       c .field4 .ensures,
       c .before .field3 .ensures,
@@ -104,7 +105,7 @@ returns c =
       c .before .before .before .before .before .before .before .before .before .before .before .before .before .before .before .before .before .before .byte .ensures .0,
       c .before .before .before .before .before .before .before .before .before .before .before .before .before .before .before .before .before .before .before .last-at .ensures .0,
     )
-    (flat-block (now (c .before .before .before .before .before .before .before .before .before .before .before .before .before .before .before .before .before .before .before .before .before .args .s)) (c .before .before .before .before .before .before .before .before .before .before .before .before .before .before .before .before .before .before .before .before .before .args .p) (c .before .before .before .before .before .before .before .before .before .before .before .before .before .before .before .before .before .before .before .before .before .args .plan))
+    (flat-block (now (start .args .s)) (start .args .p) (start .args .plan))
 
 pub block-at-spec : {M : Type 1} → statement M
 block-at-spec =

@@ -36,7 +36,21 @@ core-at-requires c κs = search needs
 
 returns : tie.Need-returns
 unfolding flatRecordAt
-returns c = simp (c .core-at .ensures, c .before .bit-of4 .ensures .0, c .before .before .before .bit-of3 .ensures .0, c .before .before .before .before .bit-of2 .ensures .0, c .before .before .before .before .before .before .bit-of .ensures .0, c .before .before .byte-at2 .ensures, c .before .before .before .before .before .byte-at .ensures, c .before .before .before .before .before .before .before .bonds-at .ensures, c .before .before .before .before .before .before .before .before .scrambling-at .ensures, c .before .before .before .before .before .before .before .before .before .before .pre .1) (flat-record (now (c .before .before .before .before .before .before .before .before .before .before .args .s)) (c .before .before .before .before .before .before .before .before .before .before .args .k) (c .before .before .before .before .before .before .before .before .before .before .args .e) (c .before .before .before .before .before .before .before .before .before .before .pre .0 .second) (c .before .before .before .before .before .before .before .before .before .before .pre .0 .plan))
+returns c =
+    let start = c .before .before .before .before .before .before .before .before .before .before in
+    simp (
+      c .core-at .ensures,
+      c .before .bit-of4 .ensures .0,
+      c .before .before .before .bit-of3 .ensures .0,
+      c .before .before .before .before .bit-of2 .ensures .0,
+      c .before .before .before .before .before .before .bit-of .ensures .0,
+      c .before .before .byte-at2 .ensures,
+      c .before .before .before .before .before .byte-at .ensures,
+      c .before .before .before .before .before .before .before .bonds-at .ensures,
+      c .before .before .before .before .before .before .before .before .scrambling-at .ensures,
+      start .pre .1,
+    )
+    (flat-record (now (start .args .s)) (start .args .k) (start .args .e) (start .pre .0 .second) (start .pre .0 .plan))
 
 pub record-of-spec : {M : Type 1} → statement M
 record-of-spec =

@@ -44,29 +44,55 @@ add-put-plan : tie.Need-add-put-plan
 add-put-plan c = search needs
 
 put-plan-requires : tie.Need-put-plan-requires
-put-plan-requires c κs = omega (arith, sizes-append (plan (c .before .before .before .before .before .before .before .before .before .args .f)) (last (c .before .before .before .before .before .before .before .before .before .args .f)), rw (plan-same (c .before .before .before .before .before .before .before .before .before .args .f) (c .before .before .before .before .before .before .before .before .before .pre .1 .1)) at (c .before .before .before .before .before .before .before .before .before .pre .0), c .before .before .before .copy .kept .0)
+put-plan-requires c κs =
+    let start = c .before .before .before .before .before .before .before .before .before in
+    omega (
+      arith,
+      sizes-append (plan (start .args .f)) (last (start .args .f)),
+      rw (plan-same (start .args .f) (start .pre .1 .1)) at (start .pre .0),
+      c .before .before .before .copy .kept .0,
+    )
 
 put-requires : tie.Need-put-requires
-put-requires c κs = omega (arith, sizes-append (plan (c .before .before .before .before .before .before .before .before .before .before .before .before .before .args .f)) (last (c .before .before .before .before .before .before .before .before .before .before .before .before .before .args .f)), rw (plan-same (c .before .before .before .before .before .before .before .before .before .before .before .before .before .args .f) (c .before .before .before .before .before .before .before .before .before .before .before .before .before .pre .1 .1)) at (c .before .before .before .before .before .before .before .before .before .before .before .before .before .pre .0), c .before .before .before .put-plan .kept .0, c .before .before .before .before .before .before .before .copy .kept .0, c .before .before .before .put-plan .ensures .0)
+put-requires c κs =
+    let start = c .before .before .before .before .before .before .before .before .before .before .before .before .before in
+    let put-plan = c .before .before .before .put-plan in
+    omega (
+      arith,
+      sizes-append (plan (start .args .f)) (last (start .args .f)),
+      rw (plan-same (start .args .f) (start .pre .1 .1)) at (start .pre .0),
+      put-plan .kept .0,
+      c .before .before .before .before .before .before .before .copy .kept .0,
+      put-plan .ensures .0,
+    )
 
 add-result : tie.Need-add-result
-add-result c = omega (arith, sizes-append (plan (c .before .before .before .before .before .before .before .before .before .before .before .before .before .before .before .before .args .f)) (last (c .before .before .before .before .before .before .before .before .before .before .before .before .before .before .before .before .args .f)), rw (plan-same (c .before .before .before .before .before .before .before .before .before .before .before .before .before .before .before .before .args .f) (c .before .before .before .before .before .before .before .before .before .before .before .before .before .before .before .before .pre .1 .1)) at (c .before .before .before .before .before .before .before .before .before .before .before .before .before .before .before .before .pre .0), c .before .before .put .kept .0, c .before .before .before .before .before .before .put-plan .kept .0, c .before .before .before .before .before .before .before .before .before .before .copy .kept .0, c .before .before .before .before .before .before .put-plan .ensures .0, c .before .before .before .before .before .before .before .before .before .before .before .before .before .before .before .before .good)
+add-result c =
+    let start = c .before .before .before .before .before .before .before .before .before .before .before .before .before .before .before .before in
+    let put-plan = c .before .before .before .before .before .before .put-plan in
+    omega (
+      arith,
+      sizes-append (plan (start .args .f)) (last (start .args .f)),
+      rw (plan-same (start .args .f) (start .pre .1 .1)) at (start .pre .0),
+      c .before .before .put .kept .0,
+      put-plan .kept .0,
+      c .before .before .before .before .before .before .before .before .before .before .copy .kept .0,
+      put-plan .ensures .0,
+      start .good,
+    )
 
 same-length : tie.Need-same-length
 same-length c = search needs
 
 returns : tie.Need-returns
 returns c =
-    let f = c .before .before .before .before .before .before .before .before .before .before .before .before .before .before .before .before .args .f in
+    let start = c .before .before .before .before .before .before .before .before .before .before .before .before .before .before .before .before in
+    let f = start .args .f in
     let e₁ = rw (c .before .before .before .before .before .before .before .before .before .before .before .before .before .before .block-bytes .ensures) at (c .before .before .before .before .before .before .before .before .before .before .copy .ensures) in
     let e₂ = c .before .before .before .before .before .before .put-plan .ensures in
     let e₃ = rw (c .before .before .before .before .before .before .before .before .before .before .before .before .before .last-byte .ensures) at (c .before .before .put .ensures) in
     let d = length-alone (plan f) (whole-plan (isOne (f .«beam_hopping_time_plan_selector»)) (O32.Some (f .«beamhopping_time_plan_id»))) in
-    rw (plan-same f (c .before .before .before .before .before .before .before .before .before .before .before .before .before .before .before .before .pre .1 .1)) (
-      omega (arith, e₂ .0, sizes-append (plan f) (last f)),
-      run _ _ _ _ _ e₁ (run _ _ _ _ _ (e₂ .1) e₃ (omega (arith, e₂ .0, d))) refl
-          ∙ ap (λ (l : List ℕ). stored (now (c .before .before .before .before .before .before .before .before .before .before .before .before .before .before .before .before .args .buf)) (c .before .before .before .before .before .before .before .before .before .before .before .before .before .before .before .before .args .p) (blockBytes (blockIn f) ++ l)) (sym (alone-append (plan f) (last f))),
-    )
+    rw (plan-same f (start .pre .1 .1)) (omega (arith, e₂ .0, sizes-append (plan f) (last f)), run _ _ _ _ _ e₁ (run _ _ _ _ _ (e₂ .1) e₃ (omega (arith, e₂ .0, d))) refl ∙ ap (λ (l : List ℕ). stored (now (start .args .buf)) (start .args .p) (blockBytes (blockIn f) ++ l)) (sym (alone-append (plan f) (last f))))
 
 pub put-block-spec : {M : Type 1} → statement M
 put-block-spec =
