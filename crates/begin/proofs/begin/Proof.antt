@@ -32,7 +32,12 @@ add-fit c =
 fit-requires : tie.Need-fit-requires
 fit-requires c κs =
     let l = length-accepted _ _ _ (sym (ap told (c .before .answer .given .1)) ∙ c .before .before .before .serialized-len .ensures) in
-    record { slot = form-size _ (sym (c .before .before .before .before .before .in-form .ensures) ∙ c .before .before .before .before .if1 .taken); size = omega arith; within = l .1 .0; consistent = l .0 }
+    record {
+      slot = form-size _ (sym (c .before .before .before .before .before .in-form .ensures) ∙ c .before .before .before .before .if1 .taken);
+      size = omega arith;
+      within = l .1 .0;
+      consistent = l .0;
+    }
 
 enum-known-answer-2 : tie.Need-enum-known-answer-2
 enum-known-answer-2 c = search needs

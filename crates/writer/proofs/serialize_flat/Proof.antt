@@ -39,8 +39,9 @@ returns c =
 
 returns-2 : tie.Need-returns-2
 returns-2 c =
+    let write-answer-flat = c .before .before .write-answer-flat in
     let a = c .before .before .before .before .before .args in
-    (c .before .before .write-answer-flat .ensures, sym (refused-flat (a .c) (now (a .reserved-tail)) (now (a .buf)) (λ z. c .if1 .left (ap (λ (x : FlatAnswer). x .number) (c .before .before .write-answer-flat .ensures) ∙ z))))
+    (write-answer-flat .ensures, sym (refused-flat (a .c) (now (a .reserved-tail)) (now (a .buf)) (λ z. c .if1 .left (ap (λ (x : FlatAnswer). x .number) (write-answer-flat .ensures) ∙ z))))
 
 pub serialize-flat-spec : {M : Type 1} → statement M
 serialize-flat-spec =

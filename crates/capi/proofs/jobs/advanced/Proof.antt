@@ -20,8 +20,18 @@ same-length c = search needs
 
 returns : tie.Need-returns
 returns c =
-    let e = c .before .before .before .before .advance .ensures .0 in
-    (simp (c .before .step-number .ensures, c .bit-of .ensures .0, ap (λ (x : Steps). x .told) e, ap (λ (x : Steps). x .made) e, ap (λ (x : Steps). x .done) e, ap (λ (x : Steps). x .job .«stores_made») e), c .before .before .before .before .advance .ensures .1)
+    let advance = c .before .before .before .before .advance in
+    let e = advance .ensures .0 in (
+      simp (
+        c .before .step-number .ensures,
+        c .bit-of .ensures .0,
+        ap (λ (x : Steps). x .told) e,
+        ap (λ (x : Steps). x .made) e,
+        ap (λ (x : Steps). x .done) e,
+        ap (λ (x : Steps). x .job .«stores_made») e,
+      ),
+      advance .ensures .1,
+    )
 
 pub advanced-spec : {M : Type 1} → statement M
 advanced-spec =

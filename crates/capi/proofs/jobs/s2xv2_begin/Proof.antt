@@ -23,9 +23,10 @@ no-job-requires c κs = search needs
 
 returns : tie.Need-returns
 returns c =
+    let record-in = c .before .before .before .record-in in
     let e = c .before .before .begin .ensures in
     let v = sym (c .before .before .before .before .before .is-valid .ensures) ∙ c .before .before .before .before .if1 .taken in
-    (simp (v, c .before .before .before .record-in .ensures, c .answer-out .ensures, ap (λ (x : Begins). x .told) e), simp (v, c .before .before .before .record-in .ensures, ap (λ (x : Begins). x .job) e))
+    (simp (v, record-in .ensures, c .answer-out .ensures, ap (λ (x : Begins). x .told) e), simp (v, record-in .ensures, ap (λ (x : Begins). x .job) e))
 
 returns-2 : tie.Need-returns-2
 returns-2 c =

@@ -20,8 +20,18 @@ same-length c = search needs
 
 returns : tie.Need-returns
 returns c =
-    let e = c .before .before .before .before .before .step .ensures .0 in
-    (simp (c .before .step-number .ensures, c .bit-of .ensures .0, ap (λ (x : Steps). x .told) e, ap (λ (x : Steps). x .made) e, ap (λ (x : Steps). x .done) e, ap (λ (x : Steps). x .job) e), c .before .before .before .before .before .step .ensures .1)
+    let step = c .before .before .before .before .before .step in
+    let e = step .ensures .0 in (
+      simp (
+        c .before .step-number .ensures,
+        c .bit-of .ensures .0,
+        ap (λ (x : Steps). x .told) e,
+        ap (λ (x : Steps). x .made) e,
+        ap (λ (x : Steps). x .done) e,
+        ap (λ (x : Steps). x .job) e,
+      ),
+      step .ensures .1,
+    )
 
 pub s2xv2-step-spec : {M : Type 1} → statement M
 s2xv2-step-spec =

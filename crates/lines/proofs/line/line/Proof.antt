@@ -23,7 +23,8 @@ same-length c = search needs
 
 returns : tie.Need-returns
 unfolding lineOf
-returns c = then4 (c .before .before .before .before .before .before .before .before .before .before .before .before .before .before .copy .ensures) (c .before .before .before .before .before .before .before .before .before .before .put .ensures) (c .before .before .before .before .before .before .decimal .ensures) (c .before .before .put2 .ensures)
+returns c =
+    then4 (c .before .before .before .before .before .before .before .before .before .before .before .before .before .before .copy .ensures) (c .before .before .before .before .before .before .before .before .before .before .put .ensures) (c .before .before .before .before .before .before .decimal .ensures) (c .before .before .put2 .ensures)
 
 pub line-spec : {M : Type 1} → statement M
 line-spec =

@@ -29,7 +29,8 @@ same-length c = search needs
 
 returns : tie.Need-returns
 unfolding decimalOf
-returns c = then4 (c .before .before .before .before .before .before .before .before .before .before .before .before .before .before .three .ensures) (c .before .before .before .before .before .before .before .before .before .before .three2 .ensures) (c .before .before .before .before .before .before .three3 .ensures) (c .before .before .put .ensures)
+returns c =
+    then4 (c .before .before .before .before .before .before .before .before .before .before .before .before .before .before .three .ensures) (c .before .before .before .before .before .before .before .before .before .before .three2 .ensures) (c .before .before .before .before .before .before .three3 .ensures) (c .before .before .put .ensures)
 
 pub decimal-spec : {M : Type 1} → statement M
 decimal-spec =

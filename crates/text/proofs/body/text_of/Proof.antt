@@ -35,9 +35,10 @@ same-length c = search needs
 
 returns : tie.Need-returns
 returns c =
+    let parse = c .before .before .before .before .before .before .before .before .parse in
     let s = now (c .before .before .before .before .before .before .before .before .before .before .before .args .sel) in
-    let r = c .before .before .before .before .before .before .before .before .parse .result in
-    let e = c .before .before .before .before .before .before .before .before .parse .ensures in
+    let r = parse .result in
+    let e = parse .ensures in
     let t = c .before .before .before .before .reserved-tail .ensures in
     same-text (ap (λ (l : List ℕ). bodyOf (length s) (r .body) (length l)) t ∙ accepted-text s r e _ (c .before .before .before .before .before .enum-told .given .1)) (c .before .before .accepted .ensures)
 
@@ -46,9 +47,10 @@ same-length-2 c = search needs
 
 returns-2 : tie.Need-returns-2
 returns-2 c =
+    let parse = c .before .before .before .before .before .before .before .before .parse in
     let s = now (c .before .before .before .before .before .before .before .before .before .before .before .args .sel) in
-    let r = c .before .before .before .before .before .before .before .before .parse .result in
-    same-text (refused-text s r (c .before .before .before .before .before .before .before .before .parse .ensures) _ (c .before .before .before .before .before .answer .given .1)) (c .before .before .refused .ensures)
+    let r = parse .result in
+    same-text (refused-text s r (parse .ensures) _ (c .before .before .before .before .before .answer .given .1)) (c .before .before .refused .ensures)
 
 pub text-of-spec : {M : Type 1} → statement M
 text-of-spec =

@@ -32,7 +32,8 @@ same-length c = search needs
 
 returns : tie.Need-returns
 unfolding bondOf
-returns c = then4 (c .before .before .before .before .before .before .before .before .before .before .before .before .before .before .before .before .line8 .ensures) (c .before .before .before .before .before .before .before .before .before .before .before .line82 .ensures) (c .before .before .before .before .before .before .before .top .ensures) (c .before .before .line83 .ensures)
+returns c =
+    then4 (c .before .before .before .before .before .before .before .before .before .before .before .before .before .before .before .before .line8 .ensures) (c .before .before .before .before .before .before .before .before .before .before .before .line82 .ensures) (c .before .before .before .before .before .before .before .top .ensures) (c .before .before .line83 .ensures)
 
 pub bond-spec : {M : Type 1} → statement M
 bond-spec =

@@ -35,7 +35,8 @@ same-length c = search needs
 
 returns : tie.Need-returns
 unfolding carrierOf
-returns c = then4 (c .before .before .before .before .before .before .before .before .before .before .before .before .before .before .before .before .before .line8 .ensures) (c .before .before .before .before .before .before .before .before .before .before .before .before .line32 .ensures) (c .before .before .before .before .before .before .before .line322 .ensures) (c .before .before .line323 .ensures)
+returns c =
+    then4 (c .before .before .before .before .before .before .before .before .before .before .before .before .before .before .before .before .before .line8 .ensures) (c .before .before .before .before .before .before .before .before .before .before .before .before .line32 .ensures) (c .before .before .before .before .before .before .before .line322 .ensures) (c .before .before .line323 .ensures)
 
 pub carrier-spec : {M : Type 1} → statement M
 carrier-spec =

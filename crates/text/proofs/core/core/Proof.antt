@@ -23,7 +23,8 @@ same-length c = search needs
 
 returns : tie.Need-returns
 unfolding coreOf
-returns c = then4 (c .before .before .before .before .before .before .before .before .before .before .before .before .before .before .start .ensures) (c .before .before .before .before .before .before .before .before .before .before .flags .ensures) (c .before .before .before .before .before .before .bond .ensures) (c .before .before .carrier .ensures)
+returns c =
+    then4 (c .before .before .before .before .before .before .before .before .before .before .before .before .before .before .start .ensures) (c .before .before .before .before .before .before .before .before .before .before .flags .ensures) (c .before .before .before .before .before .before .bond .ensures) (c .before .before .carrier .ensures)
 
 pub core-spec : {M : Type 1} → statement M
 core-spec =

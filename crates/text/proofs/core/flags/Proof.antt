@@ -35,7 +35,8 @@ same-length c = search needs
 
 returns : tie.Need-returns
 unfolding flagsOf
-returns c = then4 (c .before .before .before .before .before .before .before .before .before .before .before .before .before .before .before .before .before .line8 .ensures) (c .before .before .before .before .before .before .before .before .before .before .before .before .line82 .ensures) (c .before .before .before .before .before .before .before .flag .ensures) (c .before .before .flag2 .ensures)
+returns c =
+    then4 (c .before .before .before .before .before .before .before .before .before .before .before .before .before .before .before .before .before .line8 .ensures) (c .before .before .before .before .before .before .before .before .before .before .before .before .line82 .ensures) (c .before .before .before .before .before .before .before .flag .ensures) (c .before .before .flag2 .ensures)
 
 pub flags-spec : {M : Type 1} → statement M
 flags-spec =

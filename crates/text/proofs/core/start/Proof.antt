@@ -32,7 +32,8 @@ same-length c = search needs
 
 returns : tie.Need-returns
 unfolding startOf
-returns c = then4 (c .before .before .before .before .before .before .before .before .before .before .before .before .before .before .before .before .line .ensures) (c .before .before .before .before .before .before .before .before .before .before .before .line32 .ensures) (c .before .before .before .before .before .before .before .mode .ensures) (c .before .before .flag .ensures)
+returns c =
+    then4 (c .before .before .before .before .before .before .before .before .before .before .before .before .before .before .before .before .line .ensures) (c .before .before .before .before .before .before .before .before .before .before .before .line32 .ensures) (c .before .before .before .before .before .before .before .mode .ensures) (c .before .before .flag .ensures)
 
 pub start-spec : {M : Type 1} → statement M
 start-spec =

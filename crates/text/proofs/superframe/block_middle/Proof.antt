@@ -32,7 +32,8 @@ same-length c = search needs
 
 returns : tie.Need-returns
 unfolding blockMiddleOf
-returns c = then4 (c .before .before .before .before .before .before .before .before .before .before .before .before .before .before .before .before .line32 .ensures) (c .before .before .before .before .before .before .before .before .before .before .before .before .nibble .ensures) (c .before .before .before .before .before .before .before .line322 .ensures) (c .before .before .plan .ensures)
+returns c =
+    then4 (c .before .before .before .before .before .before .before .before .before .before .before .before .before .before .before .before .line32 .ensures) (c .before .before .before .before .before .before .before .before .before .before .before .before .nibble .ensures) (c .before .before .before .before .before .before .before .line322 .ensures) (c .before .before .plan .ensures)
 
 pub block-middle-spec : {M : Type 1} → statement M
 block-middle-spec =

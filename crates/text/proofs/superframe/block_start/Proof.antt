@@ -35,7 +35,8 @@ same-length c = search needs
 
 returns : tie.Need-returns
 unfolding blockStartOf
-returns c = then4 (c .before .before .before .before .before .before .before .before .before .before .before .before .before .before .before .before .before .line8 .ensures) (c .before .before .before .before .before .before .before .before .before .before .before .before .flag .ensures) (c .before .before .before .before .before .before .before .flag2 .ensures) (c .before .before .line82 .ensures)
+returns c =
+    then4 (c .before .before .before .before .before .before .before .before .before .before .before .before .before .before .before .before .before .line8 .ensures) (c .before .before .before .before .before .before .before .before .before .before .before .before .flag .ensures) (c .before .before .before .before .before .before .before .flag2 .ensures) (c .before .before .line82 .ensures)
 
 pub block-start-spec : {M : Type 1} → statement M
 block-start-spec =

@@ -20,7 +20,9 @@ less-one-requires : tie.Need-less-one-requires
 less-one-requires c κs = search needs
 
 bond-header-requires : tie.Need-bond-header-requires
-bond-header-requires c κs = (narrow-if _ 7 _ (c .before .before .before .before .pre .1 .1) (eq-eqb _ _ (c .before .before .if1 .taken)), rw (c .less-one .ensures) (narrow-if _ 1 _ (c .before .before .before .before .pre .1 .0) (eq-eqb _ _ (c .before .before .if1 .taken))))
+bond-header-requires c κs =
+    let start = c .before .before .before .before in
+    (narrow-if _ 7 _ (start .pre .1 .1) (eq-eqb _ _ (c .before .before .if1 .taken)), rw (c .less-one .ensures) (narrow-if _ 1 _ (start .pre .1 .0) (eq-eqb _ _ (c .before .before .if1 .taken))))
 
 put-requires : tie.Need-put-requires
 put-requires c κs =
@@ -34,9 +36,11 @@ add-put-32 c = search needs
 
 put-32-requires : tie.Need-put-32-requires
 put-32-requires c κs =
-    let a = c .before .before .before .before .before .before .before .before .before .args in
-    let h = narrow-if _ 1 _ (c .before .before .before .before .before .before .before .before .before .pre .1 .0) (eq-eqb _ _ (c .before .before .before .before .before .before .before .if1 .taken)) in
-    let k = rw (eq-eqb _ _ (c .before .before .before .before .before .before .before .if1 .taken)) at (c .before .before .before .before .before .before .before .before .before .pre .0) in
+    let start = c .before .before .before .before .before .before .before .before .before in
+    let if1 = c .before .before .before .before .before .before .before .if1 in
+    let a = start .args in
+    let h = narrow-if _ 1 _ (start .pre .1 .0) (eq-eqb _ _ (if1 .taken)) in
+    let k = rw (eq-eqb _ _ (if1 .taken)) at (start .pre .0) in
     omega (arith, bond-room (a .reserved) (a .count) (a .first ∷ a .second ∷ []) h, c .before .before .before .put .kept .0)
 
 add-put-32-2 : tie.Need-add-put-32-2
@@ -45,7 +49,11 @@ add-put-32-2 c = search needs
 put-32-requires-2 : tie.Need-put-32-requires-2
 unfolding bondParts
 put-32-requires-2 c κs =
-    let k = rw (eq-eqb _ _ (c .before .before .before .before .before .before .before .before .before .before .before .before .if1 .taken), c .before .if2 .taken) at (c .before .before .before .before .before .before .before .before .before .before .before .before .before .before .pre .0) in
+    let k = rw (
+      eq-eqb _ _ (c .before .before .before .before .before .before .before .before .before .before .before .before .if1 .taken),
+      c .before .if2 .taken,
+    )
+    at (c .before .before .before .before .before .before .before .before .before .before .before .before .before .before .pre .0) in
     omega (arith, c .before .before .before .before .put-32 .kept .0, c .before .before .before .before .before .before .before .before .put .kept .0)
 
 add-result : tie.Need-add-result
@@ -60,11 +68,20 @@ same-length c = search needs
 returns : tie.Need-returns
 unfolding bondParts
 returns c =
+    let if2 = c .before .before .before .before .if2 in
     let a = c .before .before .before .before .before .before .before .before .before .before .before .before .before .before .before .before .before .args in
-    let e₁ = rw (c .before .before .before .before .before .before .before .before .before .before .before .before .bond-header .ensures, c .before .before .before .before .before .before .before .before .before .before .before .before .before .less-one .ensures) at (c .before .before .before .before .before .before .before .before .before .before .before .put .ensures) in
+    let e₁ = rw (
+      c .before .before .before .before .before .before .before .before .before .before .before .before .bond-header .ensures,
+      c .before .before .before .before .before .before .before .before .before .before .before .before .before .less-one .ensures,
+    )
+    at (c .before .before .before .before .before .before .before .before .before .before .before .put .ensures) in
     let e₂ = c .before .before .before .before .before .before .before .put-32 .ensures in
     let e₃ = c .before .before .put-322 .ensures in
-    rw (eq-eqb _ _ (c .before .before .before .before .before .before .before .before .before .before .before .before .before .before .before .if1 .taken), c .before .before .before .before .if2 .taken) (refl, run _ _ _ _ _ (rw (c .before .before .before .before .if2 .taken) at e₁) (run _ (a .p + 1) (be 4 (a .first)) (a .p + 5) (be 4 (a .second)) e₂ e₃ (sym (add-assoc (a .p) 1 4))) refl)
+    rw (
+      eq-eqb _ _ (c .before .before .before .before .before .before .before .before .before .before .before .before .before .before .before .if1 .taken),
+      if2 .taken,
+    )
+    (refl, run _ _ _ _ _ (rw (if2 .taken) at e₁) (run _ (a .p + 1) (be 4 (a .first)) (a .p + 5) (be 4 (a .second)) e₂ e₃ (sym (add-assoc (a .p) 1 4))) refl)
 
 same-length-2 : tie.Need-same-length-2
 same-length-2 c = search needs
@@ -72,12 +89,18 @@ same-length-2 c = search needs
 returns-2 : tie.Need-returns-2
 unfolding bondParts
 returns-2 c =
-    let a = c .before .before .before .before .before .before .before .before .before .before .before .before .before .args in
-    let h = narrow-if _ 1 _ (c .before .before .before .before .before .before .before .before .before .before .before .before .before .pre .1 .0) (eq-eqb _ _ (c .before .before .before .before .before .before .before .before .before .before .before .if1 .taken)) in
-    let e₁ = rw (c .before .before .before .before .before .before .before .before .bond-header .ensures, c .before .before .before .before .before .before .before .before .before .less-one .ensures) at (c .before .before .before .before .before .before .before .put .ensures) in
+    let start = c .before .before .before .before .before .before .before .before .before .before .before .before .before in
+    let if1 = c .before .before .before .before .before .before .before .before .before .before .before .if1 in
+    let a = start .args in
+    let h = narrow-if _ 1 _ (start .pre .1 .0) (eq-eqb _ _ (if1 .taken)) in
+    let e₁ = rw (
+      c .before .before .before .before .before .before .before .before .bond-header .ensures,
+      c .before .before .before .before .before .before .before .before .before .less-one .ensures,
+    )
+    at (c .before .before .before .before .before .before .before .put .ensures) in
     let e₂ = c .before .before .before .put-32 .ensures in
     let n = one-bond (a .count) h (c .if2 .left) in
-    rw (eq-eqb _ _ (c .before .before .before .before .before .before .before .before .before .before .before .if1 .taken), n) (refl, run _ _ _ _ _ (rw n at e₁) e₂ refl)
+    rw (eq-eqb _ _ (if1 .taken), n) (refl, run _ _ _ _ _ (rw n at e₁) e₂ refl)
 
 returns-3 : tie.Need-returns-3
 unfolding bondParts stored

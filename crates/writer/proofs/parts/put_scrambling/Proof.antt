@@ -31,7 +31,8 @@ same-length c = search needs
 returns : tie.Need-returns
 unfolding scramblingParts
 returns c =
-    rw (c .before .before .before .before .before .if1 .taken) (refl, c .before .before .put-24 .ensures ∙ ap (λ (k : ℕ). stored (now (c .before .before .before .before .before .before .before .args .buf)) (c .before .before .before .before .before .before .before .args .p) (be 3 k)) (c .before .before .before .index-word .ensures))
+    let start = c .before .before .before .before .before .before .before in
+    rw (c .before .before .before .before .before .if1 .taken) (refl, c .before .before .put-24 .ensures ∙ ap (λ (k : ℕ). stored (now (start .args .buf)) (start .args .p) (be 3 k)) (c .before .before .before .index-word .ensures))
 
 returns-2 : tie.Need-returns-2
 unfolding scramblingParts stored
