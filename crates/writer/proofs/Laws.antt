@@ -6,6 +6,7 @@ use mathlib.Core.Bool.{Bool, true, false}
 use Prim.Native.Nat.{ℕ, zero, suc, _+_, _%_, _≤_, _<_}
 use native.Mathlib.Nat.{add-zero}
 use native.Mathlib.Omega.{arith}
+use lib.Dec.{eqb}
 use lib.ListN.{length, getD}
 use Rattle.wire.specs.Widths.{pack}
 use Rattle.wire.specs.Parts.{Part, bytesOf, sizes}
@@ -79,7 +80,7 @@ clear-parts r h =
 -- ---- parts of numbers that cross
 
 -- the id at the last place is the second where there are two
-pub bonds-same : (t : Bool) (r n l : ℕ) (ids : List ℕ) → l ≡ lessOne n % 2 → and t (wide 1 (lessOne n)) ≡ false
+bonds-same : (t : Bool) (r n l : ℕ) (ids : List ℕ) → l ≡ lessOne n % 2 → and t (wide 1 (lessOne n)) ≡ false
     → bondParts t r n (getD ids 0 0 ∷ getD ids l 0 ∷ []) ≡ bondParts t r n ids
 unfolding bondParts
 bonds-same false r n l ids d e = refl
@@ -87,6 +88,11 @@ bonds-same true r zero l ids d e = absurd (omega (arith, narrow 1 255 e))
 bonds-same true r (suc zero) l ids d e = refl
 bonds-same true r (suc (suc zero)) l ids d e = rw d refl
 bonds-same true r (suc (suc (suc n))) l ids d e = absurd (omega (arith, narrow 1 (suc (suc n)) e))
+
+-- the same of numbers that cross
+pub bonds-given : (c : FlatRecord) (less : ℕ) → less ≡ lessOne (c .«num_channel_bonds») → Clear (bondB (recordIn c))
+    → bondParts (eqb (c .«channel_bond») 1) (c .«reserved_zero_future_use_7») (c .«num_channel_bonds») (getD (c .«secondary_delivery_system_ids») 0 0 ∷ getD (c .«secondary_delivery_system_ids») (less % 2) 0 ∷ []) ≡ bondOf (recordIn c)
+bonds-given c less e b = bonds-same _ _ (c .«num_channel_bonds») (less % 2) (c .«secondary_delivery_system_ids») (ap (λ (k : ℕ). k % 2) e) (b .0)
 
 -- the index is there where both flags ask for it
 pub scrambling-same : (c : FlatRecord) → Clear (scramblingB (recordIn c))

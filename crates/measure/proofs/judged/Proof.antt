@@ -52,12 +52,7 @@ returns-3 c =
     let t = now (start .args .tail) in
     let m = measured r t _ (sym (ap told (c .before .before .before .before .before .measured .given .1)) ∙ c .before .before .before .before .before .before .before .judged-len .ensures) in
     let u = c .before .unwritable .ensures ∙ ap unwritable (c .before .before .record-in .ensures) in
-    let e = told-field r t (m .consistent) (omega (
-      arith,
-      m .size,
-      m .within,
-    )
-    ) (start .args .room) (omega (arith, m .size, c .before .before .before .if1 .left)) (omega (arith, u, c .if2 .taken)) in
+    let e = told-field r t (m .consistent) (omega (arith, m .size, m .within)) (start .args .room) (omega (arith, m .size, c .before .before .before .if1 .left)) (omega (arith, u, c .if2 .taken)) in
     sym (rw (← u) at e)
 
 returns-4 : tie.Need-returns-4
@@ -67,12 +62,7 @@ returns-4 c =
     let t = now (start .args .tail) in
     let m = measured r t _ (sym (ap told (c .before .before .before .before .before .measured .given .1)) ∙ c .before .before .before .before .before .before .before .judged-len .ensures) in
     let u = c .before .unwritable .ensures ∙ ap unwritable (c .before .before .record-in .ensures) in
-    let e = told-written r t (m .consistent) (omega (
-      arith,
-      m .size,
-      m .within,
-    )
-    ) (start .args .room) (omega (arith, m .size, c .before .before .before .if1 .left)) (sym u ∙ c .if2 .left) in
+    let e = told-written r t (m .consistent) (omega (arith, m .size, m .within)) (start .args .room) (omega (arith, m .size, c .before .before .before .if1 .left)) (sym u ∙ c .if2 .left) in
     rw (m .size) at (sym e)
 
 pub judged-spec : {M : Type 1} → statement M

@@ -2,10 +2,9 @@
 -- Assumes nothing.
 use mathlib.Core.Path.{refl, sym, ap, _∙_}
 use mathlib.Core.List.{_++_}
-use Prim.Native.Nat.{ℕ, _%_}
+use Prim.Native.Nat.{ℕ}
 use native.Mathlib.Omega.{arith}
 use lib.ListN.{drop}
-use lib.Dec.{eqb}
 use denote.Ref.{now}
 use Rattle.wire.specs.Store.{stored}
 use Rattle.wire.specs.Parts.{sizes}
@@ -14,7 +13,7 @@ use Rattle.s2xv2.specs.Encode.{streamOf, scramblingOf, timesliceOf, bondOf, sup
 use Rattle.s2xv2.proofs.Whole.{whole-byte, whole-scrambling, whole-bond, whole-superframe, encode-length}
 use Rattle.flat.specs.Input.{recordIn}
 use Rattle.s2xv2.proofs.Whole.{parts-split}
-use Rattle.writer.proofs.Laws.{length-alone, encode-parts, clear-parts, scrambling-same, scrambling-narrow, bonds-same}
+use Rattle.writer.proofs.Laws.{length-alone, encode-parts, clear-parts, scrambling-same, scrambling-narrow, bonds-given}
 use borrow.Author.Needs.{needs}
 use Rattle.writer.proofs.put_all.Statement.{statement}
 use Rattle.writer.proofs.put_all.Tie as tie
@@ -104,7 +103,7 @@ put-bonds-requires c κs =
         rw (scrambling-same (start .args .t2) (clear-parts r (start .pre .1 .1) .1)) at (put-scrambling .ensures .0),
         put-byte2 .kept .0,
         put-byte2 .ensures .0,
-        ap sizes (bonds-same (eqb (start .args .t2 .«channel_bond») 1) (start .args .t2 .«reserved_zero_future_use_7») (start .args .t2 .«num_channel_bonds») _ (start .args .t2 .«secondary_delivery_system_ids») (ap (λ (k : ℕ). k % 2) (c .before .before .before .less-one .ensures)) (clear-parts r (start .pre .1 .1) .2 .0)),
+        ap sizes (bonds-given (start .args .t2) _ (c .before .before .before .less-one .ensures) (clear-parts r (start .pre .1 .1) .2)),
       ),
       (b .0, b .1 .0),
     )
@@ -132,7 +131,7 @@ put-superframe-requires c κs =
         put-byte2 .ensures .0,
         put-bonds .kept .0,
         put-bonds .ensures .0,
-        ap sizes (bonds-same (eqb (start .args .t2 .«channel_bond») 1) (start .args .t2 .«reserved_zero_future_use_7») (start .args .t2 .«num_channel_bonds») _ (start .args .t2 .«secondary_delivery_system_ids») (ap (λ (k : ℕ). k % 2) (c .before .before .before .before .before .before .before .before .less-one .ensures)) (clear-parts r (start .pre .1 .1) .2 .0)),
+        ap sizes (bonds-given (start .args .t2) _ (c .before .before .before .before .before .before .before .before .less-one .ensures) (clear-parts r (start .pre .1 .1) .2)),
       ),
       (start .pre .1 .0 .block, clear-parts r (start .pre .1 .1) .3),
     )
@@ -161,7 +160,7 @@ copy-requires c κs =
       put-byte2 .ensures .0,
       put-bonds .kept .0,
       put-bonds .ensures .0,
-      ap sizes (bonds-same (eqb (start .args .t2 .«channel_bond») 1) (start .args .t2 .«reserved_zero_future_use_7») (start .args .t2 .«num_channel_bonds») _ (start .args .t2 .«secondary_delivery_system_ids») (ap (λ (k : ℕ). k % 2) (c .before .before .before .before .before .before .before .before .before .before .before .before .less-one .ensures)) (clear-parts r (start .pre .1 .1) .2 .0)),
+      ap sizes (bonds-given (start .args .t2) _ (c .before .before .before .before .before .before .before .before .before .before .before .before .less-one .ensures) (clear-parts r (start .pre .1 .1) .2)),
       put-superframe .kept .0,
       put-superframe .ensures .0,
     )
@@ -188,15 +187,10 @@ returns c =
     let e₂ = c .before .before .before .before .before .before .before .before .before .before .before .before .before .before .before .before .before .before .before .before .before .before .before .before .before .before .put-byte .ensures in
     let e₃ = rw (scrambling-same (a .t2) (clear-parts r (start .pre .1 .1) .1)) at (c .before .before .before .before .before .before .before .before .before .before .before .before .before .before .before .before .before .before .before .before .before .before .put-scrambling .ensures) in
     let e₄ = c .before .before .before .before .before .before .before .before .before .before .before .before .before .before .before .before .before .before .put-byte2 .ensures in
-    let e₅ = rw (bonds-same (eqb (start .args .t2 .«channel_bond») 1) (start .args .t2 .«reserved_zero_future_use_7») (start .args .t2 .«num_channel_bonds») _ (start .args .t2 .«secondary_delivery_system_ids») (ap (λ (k : ℕ). k % 2) (c .before .before .before .before .before .before .before .before .before .before .before .before .before .before .before .less-one .ensures)) (clear-parts r (start .pre .1 .1) .2 .0)) at (c .before .before .before .before .before .before .before .before .before .before .before .put-bonds .ensures) in
+    let e₅ = rw (bonds-given (start .args .t2) _ (c .before .before .before .before .before .before .before .before .before .before .before .before .before .before .before .less-one .ensures) (clear-parts r (start .pre .1 .1) .2)) at (c .before .before .before .before .before .before .before .before .before .before .before .put-bonds .ensures) in
     let e₆ = c .before .before .before .before .before .before .put-superframe .ensures in
     let l = encode-length r t in
-    run _ _ _ _ _ (c .before .before .before .before .before .before .before .before .before .before .before .before .before .before .before .before .before .before .before .before .before .before .before .before .before .before .before .before .before .before .put-core .ensures) (run _ _ _ _ _ (e₂ .1) (run _ _ _ _ _ (e₃ .1) (run _ _ _ _ _ (e₄ .1) (run _ _ _ _ _ (e₅ .1) (run _ _ _ _ _ (e₆ .1) (c .before .before .copy .ensures) (omega (
-      arith,
-      e₆ .0,
-      length-alone (superframeOf r) (whole-superframe _),
-    )
-    )) (omega (arith, e₅ .0, length-alone (bondOf r) (whole-bond _ _ _ _)))) (omega (arith, e₄ .0, length-alone (timesliceOf r) (whole-byte _)))) (omega (arith, e₃ .0, length-alone (scramblingOf r) (whole-scrambling _ _ _)))) (omega (arith, e₂ .0, length-alone (streamOf r) (whole-byte _)))) refl ∙ ap (stored (now (a .buf)) 0) (sym (encode-parts r t)) ∙ stored-front (now (a .buf)) (encode r t) (omega (arith, l, start .pre .0)) ∙ ap (λ (k : ℕ). encode r t ++ drop k (now (a .buf))) l
+    run _ _ _ _ _ (c .before .before .before .before .before .before .before .before .before .before .before .before .before .before .before .before .before .before .before .before .before .before .before .before .before .before .before .before .before .before .put-core .ensures) (run _ _ _ _ _ (e₂ .1) (run _ _ _ _ _ (e₃ .1) (run _ _ _ _ _ (e₄ .1) (run _ _ _ _ _ (e₅ .1) (run _ _ _ _ _ (e₆ .1) (c .before .before .copy .ensures) (omega (arith, e₆ .0, length-alone (superframeOf r) (whole-superframe _)))) (omega (arith, e₅ .0, length-alone (bondOf r) (whole-bond _ _ _ _)))) (omega (arith, e₄ .0, length-alone (timesliceOf r) (whole-byte _)))) (omega (arith, e₃ .0, length-alone (scramblingOf r) (whole-scrambling _ _ _)))) (omega (arith, e₂ .0, length-alone (streamOf r) (whole-byte _)))) refl ∙ ap (stored (now (a .buf)) 0) (sym (encode-parts r t)) ∙ stored-front (now (a .buf)) (encode r t) (omega (arith, l, start .pre .0)) ∙ ap (λ (k : ℕ). encode r t ++ drop k (now (a .buf))) l
 
 pub put-all-spec : {M : Type 1} → statement M
 put-all-spec =

@@ -1,7 +1,7 @@
 -- `capi::jobs::advanced` meets its contract: what crosses is what `advance` answers.
 -- Assumes nothing.
 use mathlib.Core.Path.{ap}
-use Rattle.job.specs.Step.{Steps}
+use Rattle.capi.specs.Job.{movedOut}
 use borrow.Author.Needs.{needs}
 use Rattle.capi.proofs.jobs.advanced.Statement.{statement}
 use Rattle.capi.proofs.jobs.advanced.Tie as tie
@@ -21,17 +21,7 @@ same-length c = search needs
 returns : tie.Need-returns
 returns c =
     let advance = c .before .before .before .before .advance in
-    let e = advance .ensures .0 in (
-      simp (
-        c .before .step-number .ensures,
-        c .bit-of .ensures .0,
-        ap (λ (x : Steps). x .told) e,
-        ap (λ (x : Steps). x .made) e,
-        ap (λ (x : Steps). x .done) e,
-        ap (λ (x : Steps). x .job .«stores_made») e,
-      ),
-      advance .ensures .1,
-    )
+    (simp (c .before .step-number .ensures, c .bit-of .ensures .0) (ap movedOut (advance .ensures .0)), advance .ensures .1)
 
 pub advanced-spec : {M : Type 1} → statement M
 advanced-spec =

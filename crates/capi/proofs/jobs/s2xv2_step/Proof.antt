@@ -1,7 +1,7 @@
 -- `capi::jobs::s2xv2_step` meets its contract: what crosses is what `step` answers.
 -- Assumes nothing.
 use mathlib.Core.Path.{ap}
-use Rattle.job.specs.Step.{Steps}
+use Rattle.capi.specs.Job.{steppedOut}
 use borrow.Author.Needs.{needs}
 use Rattle.capi.proofs.jobs.s2xv2_step.Statement.{statement}
 use Rattle.capi.proofs.jobs.s2xv2_step.Tie as tie
@@ -21,17 +21,7 @@ same-length c = search needs
 returns : tie.Need-returns
 returns c =
     let step = c .before .before .before .before .before .step in
-    let e = step .ensures .0 in (
-      simp (
-        c .before .step-number .ensures,
-        c .bit-of .ensures .0,
-        ap (λ (x : Steps). x .told) e,
-        ap (λ (x : Steps). x .made) e,
-        ap (λ (x : Steps). x .done) e,
-        ap (λ (x : Steps). x .job) e,
-      ),
-      step .ensures .1,
-    )
+    (simp (c .before .step-number .ensures, c .bit-of .ensures .0) (ap steppedOut (step .ensures .0)), step .ensures .1)
 
 pub s2xv2-step-spec : {M : Type 1} → statement M
 s2xv2-step-spec =
