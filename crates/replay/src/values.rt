@@ -49,6 +49,11 @@ const FIELDS: [[u32; 3]; 42] = [
     [255, 7, 22], // 41: postamble_pli
 ];
 
+// The row of a field; there are 42.
+fn row(i: usize) -> [u32; 3] {
+    if i < 42 { FIELDS[i] } else { [0, 0, 0] }
+}
+
 // The low 32 bits of a number.
 fn low(v: u64) -> u32 {
     (v % 4_294_967_296) as u32
@@ -80,7 +85,8 @@ fn all(full: u32) -> [u32; 45] {
     let mut v = [0u32; 45];
     let mut i = 0;
     while i < 42 {
-        v[i] = once(full, FIELDS[i][1]);
+        let r = row(i);
+        v[i] = once(full, r[1]);
         i += 1;
     }
     v
@@ -151,7 +157,8 @@ pub(crate) fn walk(case: u32) -> [u32; 45] {
     let field = (case % 42) as usize;
     let full = case / 21_504 % 2;
     let mut values = plain(case / 1344 % 16, full);
-    values[field] = turned(values[field], weight(case / 42 % 32, FIELDS[field][0]));
+    let r = row(field);
+    values[field] = turned(values[field], weight(case / 42 % 32, r[0]));
     values[42] = full * 3;
     values[43] = 3;
     values
@@ -194,7 +201,8 @@ fn values(d: &[u32; 48], f: Faults) -> [u32; 45] {
     let mut v = [0u32; 45];
     let mut i = 0;
     while i < 42 {
-        v[i] = value(d[i], FIELDS[i][1], FIELDS[i][0], f.b(FIELDS[i][2]));
+        let r = row(i);
+        v[i] = value(d[i], r[1], r[0], f.b(r[2]));
         i += 1;
     }
     v

@@ -14,14 +14,11 @@ abbrev μ-loop : tie.MeasureT-loop
 loop-holds : tie.Need-loop-holds Inv-loop μ-loop
 loop-holds c = search needs
 
-mul-once : tie.Need-mul-once Inv-loop μ-loop
-mul-once c = search needs
+row-requires : tie.Need-row-requires Inv-loop μ-loop
+row-requires c κs = search needs
 
-index-1-once : tie.Need-index-1-once Inv-loop μ-loop
-index-1-once c = search needs
-
-index-2-once : tie.Need-index-2-once Inv-loop μ-loop
-index-2-once c = search needs
+array-read-once : tie.Need-array-read-once Inv-loop μ-loop
+array-read-once c = search needs
 
 once-requires : tie.Need-once-requires Inv-loop μ-loop
 once-requires c κs = search needs
@@ -51,9 +48,8 @@ all-spec =
     Inv-loop
     μ-loop
     loop-holds
-    mul-once
-    index-1-once
-    index-2-once
+    row-requires
+    array-read-once
     once-requires
     mul-v
     array-write-v

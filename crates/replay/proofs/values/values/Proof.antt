@@ -14,38 +14,23 @@ abbrev μ-loop : tie.MeasureT-loop
 loop-holds : tie.Need-loop-holds Inv-loop μ-loop
 loop-holds c = search needs
 
+row-requires : tie.Need-row-requires Inv-loop μ-loop
+row-requires c κs = search needs
+
 mul-value : tie.Need-mul-value Inv-loop μ-loop
 mul-value c = search needs
 
 element-copy-out-value : tie.Need-element-copy-out-value Inv-loop μ-loop
 element-copy-out-value c = search needs
 
-mul-value-2 : tie.Need-mul-value-2 Inv-loop μ-loop
-mul-value-2 c = search needs
+array-read-value : tie.Need-array-read-value Inv-loop μ-loop
+array-read-value c = search needs
 
-index-1-value : tie.Need-index-1-value Inv-loop μ-loop
-index-1-value c = search needs
+array-read-value-2 : tie.Need-array-read-value-2 Inv-loop μ-loop
+array-read-value-2 c = search needs
 
-index-2-value : tie.Need-index-2-value Inv-loop μ-loop
-index-2-value c = search needs
-
-mul-value-3 : tie.Need-mul-value-3 Inv-loop μ-loop
-mul-value-3 c = search needs
-
-index-1-value-2 : tie.Need-index-1-value-2 Inv-loop μ-loop
-index-1-value-2 c = search needs
-
-index-2-value-2 : tie.Need-index-2-value-2 Inv-loop μ-loop
-index-2-value-2 c = search needs
-
-mul-b : tie.Need-mul-b Inv-loop μ-loop
-mul-b c = search needs
-
-index-1-b : tie.Need-index-1-b Inv-loop μ-loop
-index-1-b c = search needs
-
-index-2-b : tie.Need-index-2-b Inv-loop μ-loop
-index-2-b c = search needs
+array-read-b : tie.Need-array-read-b Inv-loop μ-loop
+array-read-b c = search needs
 
 b-requires : tie.Need-b-requires Inv-loop μ-loop
 b-requires c κs = search needs
@@ -78,17 +63,12 @@ values-spec =
     Inv-loop
     μ-loop
     loop-holds
+    row-requires
     mul-value
     element-copy-out-value
-    mul-value-2
-    index-1-value
-    index-2-value
-    mul-value-3
-    index-1-value-2
-    index-2-value-2
-    mul-b
-    index-1-b
-    index-2-b
+    array-read-value
+    array-read-value-2
+    array-read-b
     b-requires
     value-requires
     mul-v
