@@ -16,9 +16,9 @@ use Rattle.s2xv2.proofs.Lists.{Clear}
 use Rattle.s2xv2.proofs.Modes.{by-code, code-mode, mode-named}
 use Rattle.s2xv2.specs.declared.mode.S2Xv2Mode.{S2Xv2Mode}
 use Rattle.s2xv2.specs.declared.mode.S2Xv2Mode.the-variants as M
-use Rattle.flat.specs.Input.{modeIn, blockIn, recordIn}
+use Rattle.flat_in.specs.Input.{modeIn, blockIn, recordIn}
 use Rattle.flat.specs.Output.{isReserved}
-use Rattle.flat.proofs.Back.{reserved-flag, is-bool, is-selected, is-8, is-32, is-superframe}
+use Rattle.flat_in.proofs.Back.{reserved-flag, is-bool, is-selected, is-8, is-32, is-superframe}
 use Rattle.flat.specs.declared.types.FlatSuperframe.{FlatSuperframe}
 use Rattle.flat.specs.declared.types.FlatRecord.{FlatRecord}
 use Rattle.measure.specs.Flagged.{Flagged}

@@ -2,12 +2,12 @@
 ghost use mathlib.Core.Path.{_≡_};
 ghost use mathlib.Core.Bool.{true};
 ghost use Prim.Native.Nat.{_+_, _*_, _<_};
-ghost use Rattle.flat.specs.Input.{recordIn};
+ghost use Rattle.flat_in.specs.Input.{recordIn};
 ghost use Rattle.measure.specs.Flagged.{Flagged};
 ghost use Rattle.measure.specs.Checks.{dueOf, Agrees, CoreFits, ScramblingFits, BondsFit, BlockFits, SuperframeFits, Checked};
 use crate::flag::both;
-use flat::input::joined;
-use flat::input::picked;
+use wire::field::joined;
+use wire::field::picked;
 use flat::types::FlatRecord;
 use flat::types::FlatSuperframe;
 use lists::list_b::less_one;

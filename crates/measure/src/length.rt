@@ -7,7 +7,7 @@ ghost use Rattle.wire.specs.Parts.{sizes};
 ghost use Rattle.s2xv2.specs.Options.{someSuperframeIf};
 ghost use Rattle.s2xv2.specs.Read.{only};
 ghost use Rattle.s2xv2.specs.Encode.{superframeParts, partsOf};
-ghost use Rattle.flat.specs.Input.{blockIn, recordIn};
+ghost use Rattle.flat_in.specs.Input.{blockIn, recordIn};
 ghost use Rattle.measure.specs.Flagged.{FlaggedBlock, Flagged};
 use crate::flag::both;
 use flat::types::FlatRecord;

@@ -9,7 +9,7 @@ use Rattle.s2xv2.specs.ListB.{unwritable}
 use Rattle.s2xv2.specs.Length.{lengthTold}
 use Rattle.s2xv2.proofs.Reach.{refused}
 use Rattle.s2xv2.proofs.Written.{measured, refused-alike, told-room, told-field, told-written}
-use Rattle.flat.specs.Input.{recordIn}
+use Rattle.flat_in.specs.Input.{recordIn}
 use borrow.Author.Needs.{needs}
 use Rattle.measure.proofs.judged.Statement.{statement}
 use Rattle.measure.proofs.judged.Tie as tie

@@ -4,8 +4,8 @@ use mathlib.Core.Path.{ap, _∙_}
 use denote.Ref.{now}
 use Rattle.s2xv2.specs.Length.{lengthTold}
 use Rattle.s2xv2.specs.declared.record.S2Xv2SatelliteDeliverySystem.{S2Xv2SatelliteDeliverySystem}
-use Rattle.flat.specs.Input.{recordIn}
-use Rattle.flat.proofs.Back.{back, out-valid}
+use Rattle.flat_in.specs.Input.{recordIn}
+use Rattle.flat_in.proofs.Back.{back, out-valid}
 use Rattle.measure.proofs.Flags.{flagged}
 use Rattle.measure.proofs.Accepted.{length-accepted}
 use borrow.Author.Needs.{needs}

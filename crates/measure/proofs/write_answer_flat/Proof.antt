@@ -2,7 +2,7 @@
 -- Assumes nothing.
 use mathlib.Core.Path.{sym, _∙_}
 use denote.Ref.{now}
-use Rattle.flat.specs.Input.{recordIn}
+use Rattle.flat_in.specs.Input.{recordIn}
 use Rattle.measure.proofs.Flags.{flagged}
 use Rattle.measure.proofs.Accepted.{write-accepted}
 use borrow.Author.Needs.{needs}

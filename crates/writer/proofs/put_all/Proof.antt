@@ -11,7 +11,7 @@ use Rattle.wire.specs.Parts.{sizes}
 use Rattle.wire.proofs.Stores.{run, stored-front}
 use Rattle.s2xv2.specs.Encode.{streamOf, scramblingOf, timesliceOf, bondOf, superframeOf, encode, encodedLength}
 use Rattle.s2xv2.proofs.Whole.{whole-byte, whole-scrambling, whole-bond, whole-superframe, encode-length}
-use Rattle.flat.specs.Input.{recordIn}
+use Rattle.flat_in.specs.Input.{recordIn}
 use Rattle.s2xv2.proofs.Whole.{parts-split}
 use Rattle.writer.proofs.Laws.{length-alone, encode-parts, clear-parts, scrambling-same, scrambling-narrow, bonds-given}
 use borrow.Author.Needs.{needs}
