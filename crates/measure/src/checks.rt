@@ -6,11 +6,11 @@ ghost use Rattle.flat_in.specs.Input.{recordIn};
 ghost use Rattle.measure.specs.Flagged.{Flagged};
 ghost use Rattle.measure.specs.Checks.{dueOf, Agrees, CoreFits, ScramblingFits, BondsFit, BlockFits, SuperframeFits, Checked};
 use crate::flag::both;
-use wire::field::joined;
-use wire::field::picked;
 use flat::types::FlatRecord;
 use flat::types::FlatSuperframe;
 use lists::list_b::less_one;
+use wire::field::joined;
+use wire::field::picked;
 
 // What a mode asks for, as `seen` counts it.
 fn due(code: u8) -> u32

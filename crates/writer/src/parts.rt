@@ -24,10 +24,10 @@ use crate::store::copy;
 use crate::store::put;
 use crate::store::put_24;
 use crate::store::put_32;
-use wire::field::picked;
 use flat::types::FlatRecord;
 use flat::types::FlatSuperframe;
 use lists::list_b::less_one;
+use wire::field::picked;
 use wire::number::be_bytes_24;
 
 // Byte 4: S2Xv2_mode 4, multiple_input_stream_flag 1, roll_off 3.
