@@ -13,6 +13,7 @@ use Rattle.s2xv2.specs.Encode.{streamOf, scramblingOf, timesliceOf, bondOf, sup
 use Rattle.s2xv2.proofs.Whole.{whole-byte, whole-scrambling, whole-bond, whole-superframe, encode-length}
 use Rattle.flat.specs.Input.{recordIn}
 use Rattle.s2xv2.proofs.Whole.{parts-split}
+use Rattle.measure.proofs.Flags.{block-flags}
 use Rattle.writer.proofs.Laws.{length-alone, encode-parts, clear-parts, scrambling-same, scrambling-narrow, bonds-given}
 use borrow.Author.Needs.{needs}
 use Rattle.writer.proofs.put_all.Statement.{statement}
@@ -133,7 +134,7 @@ put-superframe-requires c κs =
         put-bonds .ensures .0,
         ap sizes (bonds-given (start .args .t2) _ (c .before .before .before .before .before .before .before .before .less-one .ensures) (clear-parts r (start .pre .1 .1) .2)),
       ),
-      (start .pre .1 .0 .block, clear-parts r (start .pre .1 .1) .3),
+      (block-flags (start .args .t2) (start .pre .1 .0), clear-parts r (start .pre .1 .1) .3),
     )
 
 copy-requires : tie.Need-copy-requires

@@ -14,7 +14,6 @@ use Rattle.s2xv2.proofs.Lists.{Clear, first-clear}
 use Rattle.s2xv2.proofs.Written.{accepted-writable, written-accepted, written-refused}
 use Rattle.flat.specs.Input.{recordIn}
 use Rattle.flat.proofs.Back.{back, out-valid}
-use Rattle.measure.proofs.Flags.{flagged}
 use borrow.Author.Needs.{needs}
 use Rattle.writer.proofs.serialize_into.Statement.{statement}
 use Rattle.writer.proofs.serialize_into.Tie as tie
@@ -36,7 +35,7 @@ put-all-requires c κs =
     let w = accepted-writable (a .r) t (length (now (a .buf))) (ap numberOf (sym (c .before .before .before .before .write-answer .ensures) ∙ ap told (c .before .before .enum-told .given .1))) in
     let e = ap recordIn (c .record-out .ensures) ∙ back (a .r) in (
       subst (λ (r : S2Xv2SatelliteDeliverySystem). encodedLength r t ≤ length (now (a .buf))) (sym e) (w .fits),
-      (rw (c .record-out .ensures) (flagged _ (out-valid (a .r))), subst (λ (r : S2Xv2SatelliteDeliverySystem). Clear (listB r)) (sym e) (first-clear 0 (listB (a .r)) (w .carried))),
+      (rw (c .record-out .ensures) (out-valid (a .r)), subst (λ (r : S2Xv2SatelliteDeliverySystem). Clear (listB r)) (sym e) (first-clear 0 (listB (a .r)) (w .carried))),
     )
 
 enum-told-2 : tie.Need-enum-told-2
