@@ -1,13 +1,12 @@
 -- `writer::serialize_into` meets its contract: what is accepted is stored, and what is refused leaves the buffer.
 -- Assumes nothing.
 use mathlib.Core.Path.{sym, ap, subst, _∙_}
-use mathlib.Core.List.{_++_}
 use Prim.Native.Nat.{_≤_}
-use lib.ListN.{length, drop}
+use lib.ListN.{length}
 use denote.Ref.{now}
 use Rattle.s2xv2.specs.Answer.{told}
 use Rattle.s2xv2.specs.Read.{numberOf}
-use Rattle.s2xv2.specs.Encode.{encode, encodedLength}
+use Rattle.s2xv2.specs.Encode.{encodedLength}
 use Rattle.s2xv2.specs.ListB.{listB, unwritable}
 use Rattle.s2xv2.specs.declared.record.S2Xv2SatelliteDeliverySystem.{S2Xv2SatelliteDeliverySystem}
 use Rattle.s2xv2.proofs.Lists.{Clear, first-clear}
@@ -50,7 +49,8 @@ returns c =
     let a = c .before .before .before .before .before .before .before .before .before .before .args in
     let t = now (a .reserved-tail) in
     let e = ap recordIn (c .before .before .before .record-out .ensures) ∙ back (a .r) in
-    (write-answer .ensures, c .before .before .put-all .ensures ∙ ap (λ (r : S2Xv2SatelliteDeliverySystem). encode r t ++ drop (encodedLength r t) (now (a .buf))) e ∙ sym (written-accepted (a .r) t (now (a .buf)) _ (sym (ap told (c .before .before .before .before .before .enum-told .given .1)) ∙ write-answer .ensures)))
+    let w = written-accepted (a .r) t (now (a .buf)) _ (sym (ap told (c .before .before .before .before .before .enum-told .given .1)) ∙ write-answer .ensures) in
+    (write-answer .ensures, rw e at (c .before .before .put-all .ensures) ∙ sym w)
 
 returns-2 : tie.Need-returns-2
 returns-2 c =

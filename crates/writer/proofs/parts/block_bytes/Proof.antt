@@ -27,7 +27,8 @@ payload-word-requires c κs =
     let f = c .before .before .before .args .f in
     let b = c .before .before .before .pre .1 in
     let n = there-nibble (isOne (f .«sffi_selector»)) (isOne (f .«has_sffi»)) (f .sffi) (f .«reserved_zero_future_use_4») (rw (is-8 (isOne (f .«has_sffi»)) (f .sffi)) at (b .1 .1 .1 .0)) in
-    (rw (c .picked .ensures) (rw n at (narrow 4 (nibbleOf (isOne (f .«sffi_selector»)) (some8If (isOne (f .«has_sffi»)) (f .sffi)) (f .«reserved_zero_future_use_4»)) (b .1 .1 .1 .1 .0))), narrow 20 _ (b .1 .0))
+    let k = narrow 4 (nibbleOf (isOne (f .«sffi_selector»)) (some8If (isOne (f .«has_sffi»)) (f .sffi)) (f .«reserved_zero_future_use_4»)) (b .1 .1 .1 .1 .0) in
+    (rw (c .picked .ensures) (rw n at k), narrow 20 _ (b .1 .0))
 
 be-bytes-24-requires-2 : tie.Need-be-bytes-24-requires-2
 be-bytes-24-requires-2 c κs = search needs

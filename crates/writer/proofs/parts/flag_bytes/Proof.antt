@@ -29,7 +29,9 @@ byte-6-requires : tie.Need-byte-6-requires
 byte-6-requires c κs =
     let r = c .before .before .before .args .c in
     let b = c .before .before .before .pre .1 .1 .1 .1 .1 .1 in
-    (rw (c .picked .ensures) (top-small (isOne (r .«has_scrambling_sequence_selector»)) (r .«scrambling_sequence_selector») (r .«reserved_zero_future_use_1») (flagged r (c .before .before .before .pre .0) .selector) (b .0)), narrow 2 _ (b .1 .0), narrow 5 _ (b .1 .1 .0))
+    let s = flagged r (c .before .before .before .pre .0) .selector in
+    let top = top-small (isOne (r .«has_scrambling_sequence_selector»)) (r .«scrambling_sequence_selector») (r .«reserved_zero_future_use_1») s (b .0) in
+    (rw (c .picked .ensures) top, narrow 2 _ (b .1 .0), narrow 5 _ (b .1 .1 .0))
 
 returns : tie.Need-returns
 returns c =
