@@ -7,7 +7,7 @@ ghost use Rattle.s2xv2.specs.Length.{lengthTold};
 ghost use Rattle.s2xv2.specs.Write.{writeTold, written};
 ghost use Rattle.capi.specs.Part.{tailPart, cut};
 ghost use Rattle.flat.specs.Output.{answerOut, recordOut};
-ghost use Rattle.flat.specs.Input.{recordIn, valid, foreign};
+ghost use Rattle.flat_in.specs.Input.{recordIn, valid, foreign};
 use flat::types::FlatAnswer;
 use flat::types::FlatParsed;
 use flat::types::FlatPart;

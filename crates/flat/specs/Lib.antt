@@ -1,3 +1,2 @@
 pub mod Core
 pub mod Output
-pub mod Input

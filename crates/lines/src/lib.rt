@@ -1,4 +1,4 @@
 // Numbers and lines of text into a lent buffer, from a place on, as far as the buffer reaches.
 pub mod line;
-pub mod number;
+mod number;
 pub mod put;

@@ -8,7 +8,7 @@ use crate::put::copy;
 use crate::put::put;
 
 // A flag as a number.
-pub fn bit(b: bool) -> u64
+fn bit(b: bool) -> u64
     ensures { λ r. ⌜ r ≡ bit b ⌝ }
 {
     if b { 1 } else { 0 }
@@ -32,10 +32,10 @@ pub fn line8(out: &mut [u8], at: usize, name: &[u8], value: u8) -> usize
 }
 
 // A line with a number of four bytes.
-pub fn line32(out: &mut [u8], at: usize, name: &[u8], value: u32) -> usize
-    ensures { λ r. ⌜ Wrote (now (out .entry) from at) (lineOf (now (name .entry)) value) (now (out .exit) from r) ⌝ }
+pub fn line32(out: &mut [u8], at: usize, name: &[u8], number: u32) -> usize
+    ensures { λ r. ⌜ Wrote (now (out .entry) from at) (lineOf (now (name .entry)) number) (now (out .exit) from r) ⌝ }
 {
-    line(out, at, name, value as u64)
+    line(out, at, name, number as u64)
 }
 
 // A line with a flag, 1 or 0.
@@ -46,7 +46,7 @@ pub fn flag(out: &mut [u8], at: usize, name: &[u8], value: bool) -> usize
 }
 
 // A space and a number.
-pub fn word(out: &mut [u8], at: usize, n: u64) -> usize
+fn word(out: &mut [u8], at: usize, n: u64) -> usize
     ensures { λ r. ⌜ Wrote (now (out .entry) from at) (wordOf n) (now (out .exit) from r) ⌝ }
 {
     let at = put(out, at, b' ');

@@ -27,7 +27,7 @@ fn three(out: &mut [u8], at: usize, n: u64, a: u64, b: u64, c: u64) -> usize
 }
 
 // All digits, of which there are ten at most.
-pub fn decimal(out: &mut [u8], at: usize, n: u64) -> usize
+pub(crate) fn decimal(out: &mut [u8], at: usize, n: u64) -> usize
     ensures { λ r. ⌜ Wrote (now (out .entry) from at) (decimalOf n) (now (out .exit) from r) ⌝ }
 {
     let at = three(out, at, n, 1_000_000_000, 100_000_000, 10_000_000);

@@ -14,8 +14,8 @@ use Rattle.s2xv2.specs.Encode.{nibbleOf}
 use Rattle.s2xv2.specs.ListA.{partsA, superframeA, listA}
 use Rattle.s2xv2.specs.ListB.{wide, coreB, scramblingB, bondB, superframeB, listB}
 use Rattle.s2xv2.proofs.Lists.{Clear}
-use Rattle.flat.specs.Input.{blockIn, recordIn, valid}
-use Rattle.flat.proofs.Back.{is-bool, is-selected, is-8, is-32, is-superframe}
+use Rattle.flat_in.specs.Input.{blockIn, recordIn, valid}
+use Rattle.flat_in.proofs.Back.{is-bool, is-selected, is-8, is-32, is-superframe}
 use Rattle.flat.specs.declared.types.FlatRecord.{FlatRecord}
 use Rattle.measure.proofs.Flags.{never, is-bit}
 use Rattle.measure.proofs.Due.{dueIn, asked}

@@ -14,9 +14,9 @@ use Rattle.s2xv2.specs.ListA.{misnamed}
 use Rattle.s2xv2.proofs.Modes.{by-code, code-mode, mode-named}
 use Rattle.s2xv2.specs.declared.mode.S2Xv2Mode.{S2Xv2Mode}
 use Rattle.s2xv2.specs.declared.mode.S2Xv2Mode.the-variants as M
-use Rattle.flat.specs.Input.{modeIn, valid}
+use Rattle.flat_in.specs.Input.{modeIn, valid}
 use Rattle.flat.specs.Output.{isReserved}
-use Rattle.flat.proofs.Back.{reserved-flag}
+use Rattle.flat_in.proofs.Back.{reserved-flag}
 use Rattle.flat.specs.declared.types.FlatRecord.{FlatRecord}
 use Rattle.measure.proofs.Flags.{is-bit, flagged}
 

@@ -9,7 +9,7 @@ use native.Mathlib.Omega.{arith}
 use lib.Bits.{bitAnd, and-le-l}
 use lib.Dec.{ltb, leb}
 use borrow.Author.Tests.{ltb-true, lt-ltb, lt-leb}
-use Rattle.wire.specs.Flags.{bit, isOne, and}
+use Rattle.wire.specs.Flags.{bit, isOne, and, joinedOf}
 use Rattle.wire.specs.Parts.{_⦂_, sizes}
 use Rattle.s2xv2.specs.Read.{only}
 use Rattle.s2xv2.specs.Table144b.{superframeEnd}
@@ -17,8 +17,8 @@ use Rattle.s2xv2.specs.Options.{some32If}
 use Rattle.s2xv2.specs.Encode.{planParts, blockLength, superframeEndValues}
 use Rattle.s2xv2.specs.declared.superframe.S2Xv2Superframe.{S2Xv2Superframe}
 use Rattle.s2xv2.specs.declared.option.OptionU32.{OptionU32}
-use Rattle.flat.specs.Input.{blockIn, valid, flags, recordFlags, blockFlags, joinedOf}
-use Rattle.flat.proofs.Joined.{joined-below}
+use Rattle.flat_in.specs.Input.{blockIn, valid, flags, recordFlags, blockFlags}
+use Rattle.wire.proofs.Joined.{joined-below}
 use Rattle.flat.specs.declared.types.FlatSuperframe.{FlatSuperframe}
 use Rattle.flat.specs.declared.types.FlatRecord.{FlatRecord}
 

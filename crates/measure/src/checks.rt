@@ -13,14 +13,14 @@ ghost use Rattle.s2xv2.specs.ListA.{partsA, superframeA, listA};
 ghost use Rattle.s2xv2.specs.ListB.{wide, coreB, scramblingB, superframeB, listB};
 ghost use Rattle.s2xv2.proofs.Lists.{Clear};
 ghost use Rattle.s2xv2.specs.declared.superframe.OptionSuperframe.the-variants as OS;
-ghost use Rattle.flat.specs.Input.{blockIn, recordIn, valid};
+ghost use Rattle.flat_in.specs.Input.{blockIn, recordIn, valid};
 ghost use Rattle.flat.specs.Output.{isReserved};
 use crate::flag::both;
-use flat::input::joined;
-use flat::input::picked;
 use flat::types::FlatRecord;
 use flat::types::FlatSuperframe;
 use lists::list_b::less_one;
+use wire::field::joined;
+use wire::field::picked;
 
 // What a mode asks for, as `seen` counts it: 1 for a scrambling selector, 2 for a timeslice, 4 for a superframe block,
 // 8 for a mode that has no name.

@@ -8,7 +8,7 @@ ghost use Rattle.wire.specs.Parts.{sizes};
 ghost use Rattle.s2xv2.specs.Options.{someSuperframeIf};
 ghost use Rattle.s2xv2.specs.Read.{only};
 ghost use Rattle.s2xv2.specs.Encode.{superframeParts, partsOf};
-ghost use Rattle.flat.specs.Input.{blockIn, recordIn, valid};
+ghost use Rattle.flat_in.specs.Input.{blockIn, recordIn, valid};
 use crate::flag::both;
 use flat::types::FlatRecord;
 use flat::types::FlatSuperframe;

@@ -20,7 +20,7 @@ use Rattle.s2xv2.proofs.Back.{bit-of}
 use Rattle.s2xv2.proofs.Modes.{code-mode}
 use Rattle.flat.specs.Core.{coreOf}
 use Rattle.flat.specs.Output.{answerOut, superframeOut, recordOut}
-use Rattle.flat.proofs.Back.{is-bool, is-selected, is-8, is-32, is-superframe}
+use Rattle.flat_in.proofs.Back.{is-bool, is-selected, is-8, is-32, is-superframe}
 use Rattle.reader.specs.Seen.{answerIn}
 use Rattle.reader.proofs.Numbers.{flatBlockAt, flatCoreAt, flatRecordAt}
 

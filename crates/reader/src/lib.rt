@@ -2,12 +2,12 @@
 ghost use mathlib.Core.Path.{_≡_};
 ghost use Rattle.s2xv2.specs.Read.{readOf, tailOf};
 ghost use Rattle.reader.specs.Seen.{seen, flatSeen, flatRefused, answerIn};
-use flat::input::record_in;
 use flat::output::answer_of;
 use flat::output::answer_out;
 use flat::output::record_out;
 use flat::types::FlatAnswer;
 use flat::types::FlatParsed;
+use flat_in::record_in;
 use layout::ends::ends_of;
 use layout::missing::missing;
 use layout::present::present_in;

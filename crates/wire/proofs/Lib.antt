@@ -1,3 +1,4 @@
 pub mod Cut
+pub mod Joined
 pub mod Parts
 pub mod Stores

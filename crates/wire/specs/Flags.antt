@@ -1,6 +1,7 @@
--- Flags: `when` picks by one, `bit` and `isOne` go between a flag and a bit, `and`, `not`, `differ` join them. Assumes nothing.
+-- Flags: `when` picks by one, `bit` and `isOne` go between a flag and a bit, `and`, `not`, `differ` join them. `joinedOf` two numbers has the bits of both. Assumes nothing.
 use Prim.Native.Nat.{ℕ}
 use mathlib.Core.Bool.{Bool, true, false}
+use lib.Bits.{bitOr}
 use lib.Dec.{eqb}
 
 -- a where the flag is set, and c where it is clear
@@ -30,3 +31,7 @@ not false = true
 abbrev pub differ : Bool → Bool → Bool
 differ true b = not b
 differ false b = b
+
+-- the bits of both numbers
+unfoldable pub joinedOf : ℕ → ℕ → ℕ
+joinedOf a b = bitOr a b

@@ -10,7 +10,7 @@ use borrow.Author.Tests.{ne-eqb}
 use Rattle.wire.specs.Flags.{when}
 use Rattle.s2xv2.specs.Write.{writeTold, written}
 use Rattle.s2xv2.proofs.Written.{Writable, accepted-writable}
-use Rattle.flat.specs.Input.{recordIn, valid, foreign}
+use Rattle.flat_in.specs.Input.{recordIn, valid, foreign}
 use Rattle.flat.specs.Output.{answerOut}
 use Rattle.flat.specs.declared.types.FlatAnswer.{FlatAnswer}
 use Rattle.flat.specs.declared.types.FlatRecord.{FlatRecord}

@@ -10,7 +10,7 @@ ghost use Rattle.s2xv2.specs.Encode.{encode, encodedLength};
 ghost use Rattle.s2xv2.specs.ListB.{listB};
 ghost use Rattle.s2xv2.specs.Write.{writeTold, written};
 ghost use Rattle.s2xv2.proofs.Lists.{Clear};
-ghost use Rattle.flat.specs.Input.{recordIn, valid, foreign};
+ghost use Rattle.flat_in.specs.Input.{recordIn, valid, foreign};
 ghost use Rattle.flat.specs.Output.{answerOut};
 use flat::output::record_out;
 use flat::types::FlatAnswer;

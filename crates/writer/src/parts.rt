@@ -17,15 +17,15 @@ ghost use Rattle.s2xv2.specs.ListB.{wide, coreB, superframeB};
 ghost use Rattle.s2xv2.proofs.Lists.{Clear};
 ghost use Rattle.s2xv2.specs.declared.option.OptionU32.the-variants as O32;
 ghost use Rattle.s2xv2.specs.declared.superframe.OptionSuperframe.the-variants as OS;
-ghost use Rattle.flat.specs.Input.{blockIn, recordIn, valid, flags, blockFlags};
+ghost use Rattle.flat_in.specs.Input.{blockIn, recordIn, valid, flags, blockFlags};
 use crate::store::copy;
 use crate::store::put;
 use crate::store::put_24;
 use crate::store::put_32;
-use flat::input::picked;
 use flat::types::FlatRecord;
 use flat::types::FlatSuperframe;
 use lists::list_b::less_one;
+use wire::field::picked;
 use wire::number::be_bytes_24;
 
 // Byte 4: S2Xv2_mode 4, multiple_input_stream_flag 1, roll_off 3.

@@ -9,7 +9,7 @@ use Rattle.s2xv2.specs.ListB.{unwritable}
 use Rattle.s2xv2.specs.Length.{lengthTold}
 use Rattle.s2xv2.proofs.Reach.{refused}
 use Rattle.s2xv2.proofs.Written.{refused-alike}
-use Rattle.flat.specs.Input.{recordIn}
+use Rattle.flat_in.specs.Input.{recordIn}
 use Rattle.measure.proofs.Accepted.{judged-room, judged-field, judged-written}
 use borrow.Author.Needs.{needs}
 use Rattle.measure.proofs.judged.Statement.{statement}

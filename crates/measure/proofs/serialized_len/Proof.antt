@@ -1,7 +1,7 @@
 -- `measure::serialized_len` meets its contract: a record that crosses out is the same record, and what nothing refuses is accepted with its length.
 -- Assumes nothing.
 use mathlib.Core.Path.{sym}
-use Rattle.flat.proofs.Back.{back, out-valid}
+use Rattle.flat_in.proofs.Back.{back, out-valid}
 use borrow.Author.Needs.{needs}
 use Rattle.measure.proofs.serialized_len.Statement.{statement}
 use Rattle.measure.proofs.serialized_len.Tie as tie

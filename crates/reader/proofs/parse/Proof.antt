@@ -3,7 +3,7 @@
 use mathlib.Core.Path.{ap}
 use denote.Ref.{now}
 use Rattle.flat.specs.declared.types.FlatParsed.{FlatParsed}
-use Rattle.flat.proofs.Back.{back}
+use Rattle.flat_in.proofs.Back.{back}
 use Rattle.reader.proofs.Flat.{told-in}
 use borrow.Author.Needs.{needs}
 use Rattle.reader.proofs.parse.Statement.{statement}

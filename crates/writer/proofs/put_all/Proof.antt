@@ -14,7 +14,7 @@ use Rattle.s2xv2.specs.Table144b as T
 use Rattle.s2xv2.specs.Encode.{coreValues, streamOf, scramblingOf, timesliceOf, bondOf, superframeOf, encode, encodedLength}
 use Rattle.s2xv2.specs.declared.record.S2Xv2SatelliteDeliverySystem.{S2Xv2SatelliteDeliverySystem}
 use Rattle.s2xv2.proofs.Whole.{whole-byte, whole-scrambling, whole-bond, whole-superframe, encode-length, parts-split}
-use Rattle.flat.specs.Input.{recordIn}
+use Rattle.flat_in.specs.Input.{recordIn}
 use Rattle.measure.proofs.Flags.{block-flags}
 use Rattle.writer.proofs.Laws.{Stored, store, toScrambling, toTimeslice, toBonds, toSuperframe, store-tail, clear-parts, scrambling-same, scrambling-narrow, bonds-given}
 use borrow.Author.Needs.{needs}

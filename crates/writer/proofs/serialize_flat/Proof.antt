@@ -6,7 +6,7 @@ use denote.Ref.{now}
 use Rattle.s2xv2.specs.ListB.{listB, unwritable}
 use Rattle.s2xv2.proofs.Lists.{first-clear}
 use Rattle.s2xv2.proofs.Written.{told-written, written-accepted}
-use Rattle.flat.specs.Input.{recordIn}
+use Rattle.flat_in.specs.Input.{recordIn}
 use Rattle.flat.specs.declared.types.FlatAnswer.{FlatAnswer}
 use Rattle.writer.proofs.Crossed.{accepted-flat, refused-flat}
 use borrow.Author.Needs.{needs}

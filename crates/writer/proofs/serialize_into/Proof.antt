@@ -11,8 +11,8 @@ use Rattle.s2xv2.specs.ListB.{listB, unwritable}
 use Rattle.s2xv2.specs.declared.record.S2Xv2SatelliteDeliverySystem.{S2Xv2SatelliteDeliverySystem}
 use Rattle.s2xv2.proofs.Lists.{Clear, first-clear}
 use Rattle.s2xv2.proofs.Written.{accepted-writable, written-accepted, written-refused}
-use Rattle.flat.specs.Input.{recordIn}
-use Rattle.flat.proofs.Back.{back, out-valid}
+use Rattle.flat_in.specs.Input.{recordIn}
+use Rattle.flat_in.proofs.Back.{back, out-valid}
 use borrow.Author.Needs.{needs}
 use Rattle.writer.proofs.serialize_into.Statement.{statement}
 use Rattle.writer.proofs.serialize_into.Tie as tie

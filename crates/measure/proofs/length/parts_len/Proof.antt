@@ -2,8 +2,8 @@
 -- Assumes nothing.
 use native.Mathlib.Omega.{arith}
 use Rattle.s2xv2.proofs.Whole.{parts-size}
-use Rattle.flat.specs.Input.{recordIn}
-use Rattle.flat.proofs.Back.{is-8, is-selected}
+use Rattle.flat_in.specs.Input.{recordIn}
+use Rattle.flat_in.proofs.Back.{is-8, is-selected}
 use Rattle.measure.proofs.Flags.{is-bit, flagged, flagged-block, block-flags}
 use borrow.Author.Needs.{needs}
 use Rattle.measure.proofs.length.parts_len.Statement.{statement}

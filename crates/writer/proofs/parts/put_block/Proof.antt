@@ -14,7 +14,7 @@ use Rattle.wire.proofs.Parts.{sizes-append}
 use Rattle.s2xv2.specs.Table144b as T
 use Rattle.s2xv2.specs.Encode.{superframeValues, planParts, superframeEndValues}
 use Rattle.s2xv2.specs.declared.option.OptionU32.the-variants as O32
-use Rattle.flat.specs.Input.{blockIn}
+use Rattle.flat_in.specs.Input.{blockIn}
 use Rattle.flat.specs.declared.types.FlatSuperframe.{FlatSuperframe}
 use Rattle.s2xv2.proofs.Whole.{whole-plan}
 use Rattle.writer.proofs.Laws.{length-alone, alone-append, plan-same}
