@@ -7,8 +7,8 @@ use mathlib.Core.List.{List, [], _∷_, _++_}
 use Prim.Native.Nat.{ℕ, zero, suc, _+_, _*_, _<_}
 use native.Mathlib.Omega.{arith}
 use lib.Bits.{bitAnd, and-le-l}
-use lib.Dec.{ltb}
-use borrow.Author.Tests.{ltb-true, lt-ltb}
+use lib.Dec.{ltb, leb}
+use borrow.Author.Tests.{ltb-true, lt-ltb, lt-leb}
 use Rattle.wire.specs.Flags.{bit, isOne, and, joinedOf}
 use Rattle.wire.specs.Parts.{_⦂_, sizes}
 use Rattle.s2xv2.specs.Read.{only}
@@ -21,7 +21,6 @@ use Rattle.flat_in.specs.Input.{blockIn, valid, flags, recordFlags, blockFlags}
 use Rattle.wire.proofs.Joined.{joined-below}
 use Rattle.flat.specs.declared.types.FlatSuperframe.{FlatSuperframe}
 use Rattle.flat.specs.declared.types.FlatRecord.{FlatRecord}
-use Rattle.measure.specs.Flagged.{FlaggedBlock, Flagged}
 
 pub never : {X : Type 0} → false ≡ true → X
 never e = absurd (let z : _≡_ {A = ℕ} 0 1 = cc in omega arith)
@@ -66,6 +65,10 @@ both-right false b e = never e
 pub on-the-way : {W L : Type 0} {b : Bool} → W ⊎ L → (L → b ≡ false) → b ≡ true → W
 on-the-way c f e = ⊎-elim (λ w. w) (λ l. never (sym (f l) ∙ e)) c
 
+-- a number that passes a test of its bound is not wide
+pub fits : (n v : ℕ) → ltb v n ≡ true → leb n v ≡ false
+fits n v e = lt-leb n v (ltb-true v n e)
+
 four-below : (n a b d e : ℕ) → and (and (ltb a n) (ltb b n)) (and (ltb d n) (ltb e n)) ≡ true → (a < n) × (b < n) × (d < n) × (e < n)
 four-below n a b d e h =
     let k = both-left (and (ltb a n) (ltb b n)) (and (ltb d n) (ltb e n)) h in
@@ -83,14 +86,23 @@ four-joined a b d e x y r i j k h =
 
 -- ---- the flags of a record that could be one
 
-module _ (c : FlatRecord) (v : valid c ≡ true) where
-  record-below : flags (recordFlags c) ≡ true
-  unfolding valid
-  record-below = both-left _ _ v
+pub record FlaggedBlock (f : FlatSuperframe) : Type 0 where
+  pub selector : f .«sffi_selector» < 2
+  pub hopping : f .«beam_hopping_time_plan_selector» < 2
+  pub sffi : f .«has_sffi» < 2
+  pub plan : f .«has_beamhopping_time_plan_id» < 2
 
-  block-below : flags (blockFlags (c .superframe)) ≡ true
-  unfolding valid
-  block-below = both-left _ _ (both-right (flags (recordFlags c)) _ v)
+pub record Flagged (c : FlatRecord) : Type 0 where
+  pub reserved : c .«mode_is_reserved» < 2
+  pub flag : c .«multiple_input_stream_flag» < 2
+  pub reference : c .«ncr_reference» < 2
+  pub version : c .«ncr_version» < 2
+  pub scrambled : c .«has_scrambling_sequence_selector» < 2
+  pub selector : c .«scrambling_sequence_selector» < 2
+  pub stream : c .«has_input_stream_identifier» < 2
+  pub index : c .«has_scrambling_sequence_index» < 2
+  pub timeslice : c .«has_timeslice_number» < 2
+  pub superframe : c .«has_superframe» < 2
 
 abbrev AllBelow : List ℕ → Type 0
 AllBelow [] = Unit
@@ -101,9 +113,9 @@ all-below [] e = tt
 all-below (v ∷ vs) e = (ltb-true v 2 (both-left (ltb v 2) (flags vs) e), all-below vs (both-right (ltb v 2) (flags vs) e))
 
 pub flagged : (c : FlatRecord) → valid c ≡ true → Flagged c
+unfolding valid
 flagged c v =
-    let e = all-below (recordFlags c) (record-below c v) in
-    let f = all-below (blockFlags (c .superframe)) (block-below c v) in
+    let e = all-below (recordFlags c) (both-left _ _ v) in
     record {
       reserved = e .0;
       flag = e .1 .0;
@@ -115,13 +127,21 @@ flagged c v =
       index = e .1 .1 .1 .1 .1 .1 .1 .0;
       timeslice = e .1 .1 .1 .1 .1 .1 .1 .1 .0;
       superframe = e .1 .1 .1 .1 .1 .1 .1 .1 .1 .0;
-      block = record { selector = f .0; hopping = f .1 .0; sffi = f .1 .1 .0; plan = f .1 .1 .1 .0 };
     }
+
+pub flagged-block : (f : FlatSuperframe) → flags (blockFlags f) ≡ true → FlaggedBlock f
+flagged-block f v =
+    let e = all-below (blockFlags f) v in
+    record { selector = e .0; hopping = e .1 .0; sffi = e .1 .1 .0; plan = e .1 .1 .1 .0 }
+
+pub block-flags : (c : FlatRecord) → valid c ≡ true → flags (blockFlags (c .superframe)) ≡ true
+unfolding valid
+block-flags c v = both-left _ _ (both-right (flags (recordFlags c)) _ v)
 
 -- ---- the size of a block
 
-pub block-size : (f : FlatSuperframe) → FlaggedBlock f → 8 + 4 * f .«beam_hopping_time_plan_selector» ≡ blockLength (blockIn f)
-block-size f g = go (f .«beam_hopping_time_plan_selector») (some32If (isOne (f .«has_beamhopping_time_plan_id»)) (f .«beamhopping_time_plan_id»)) (blockIn f) (g .hopping)
+pub block-size : (f : FlatSuperframe) → f .«beam_hopping_time_plan_selector» < 2 → 8 + 4 * f .«beam_hopping_time_plan_selector» ≡ blockLength (blockIn f)
+block-size f h = go (f .«beam_hopping_time_plan_selector») (some32If (isOne (f .«has_beamhopping_time_plan_id»)) (f .«beamhopping_time_plan_id»)) (blockIn f) h
   where
     go : (h : ℕ) (o : OptionU32) (b : S2Xv2Superframe) → h < 2 → 8 + 4 * h ≡ 7 + sizes (planParts (isOne h) o ++ (superframeEnd ⦂ superframeEndValues b ∷ []))
     go zero o b k = refl

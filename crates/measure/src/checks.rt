@@ -1,10 +1,20 @@
 // Whether a record passes lists A and B: every test at once, with no place told. A flag is 0 or 1.
 ghost use mathlib.Core.Path.{_≡_};
 ghost use mathlib.Core.Bool.{true};
-ghost use Prim.Native.Nat.{_+_, _*_, _<_};
-ghost use Rattle.flat_in.specs.Input.{recordIn};
-ghost use Rattle.measure.specs.Flagged.{Flagged};
-ghost use Rattle.measure.specs.Checks.{dueOf, Agrees, CoreFits, ScramblingFits, BondsFit, BlockFits, SuperframeFits, Checked};
+ghost use mathlib.Core.List.{[], _∷_};
+ghost use Prim.Native.Nat.{_+_, _*_};
+ghost use lib.Dec.{eqb, ltb};
+ghost use lib.ListN.{take, drop};
+ghost use Rattle.wire.specs.Flags.{bit, isOne, and, not};
+ghost use Rattle.s2xv2.specs.Table144c.{modeOf, hasSelector, hasTimeslice, hasSuperframe};
+ghost use Rattle.s2xv2.specs.Options.{someSuperframeIf};
+ghost use Rattle.s2xv2.specs.Encode.{lessOne};
+ghost use Rattle.s2xv2.specs.ListA.{partsA, superframeA, listA};
+ghost use Rattle.s2xv2.specs.ListB.{wide, coreB, scramblingB, superframeB, listB};
+ghost use Rattle.s2xv2.proofs.Lists.{Clear};
+ghost use Rattle.s2xv2.specs.declared.superframe.OptionSuperframe.the-variants as OS;
+ghost use Rattle.flat_in.specs.Input.{blockIn, recordIn, valid};
+ghost use Rattle.flat.specs.Output.{isReserved};
 use crate::flag::both;
 use flat::types::FlatRecord;
 use flat::types::FlatSuperframe;
@@ -12,9 +22,10 @@ use lists::list_b::less_one;
 use wire::field::joined;
 use wire::field::picked;
 
-// What a mode asks for, as `seen` counts it.
+// What a mode asks for, as `seen` counts it: 1 for a scrambling selector, 2 for a timeslice, 4 for a superframe block,
+// 8 for a mode that has no name.
 fn due(code: u8) -> u32
-    ensures { λ r. ⌜ r ≡ dueOf code ⌝ }
+    ensures { λ r. ⌜ r ≡ bit (hasSelector (modeOf code)) + 2 * bit (hasTimeslice (modeOf code)) + 4 * bit (hasSuperframe (modeOf code)) + 8 * isReserved (modeOf code) ⌝ }
 {
     match code {
         0 => 0,
@@ -34,10 +45,11 @@ fn seen(selector: u8, timeslice: u8, superframe: u8, reserved: u8) -> u32
     (selector as u32) + 2 * (timeslice as u32) + 4 * (superframe as u32) + 8 * (reserved as u32)
 }
 
-// What mode and flags say of the parts is so.
+// What mode and flags say of the parts is so: of the first seven tests of list A none holds but perhaps the sixth, of the bonds;
+// and not the tenth of list B, of an index that is absent.
 fn agrees(c: FlatRecord) -> bool
-    requires { ⌜ Flagged c ⌝ }
-    ensures { λ r. ⌜ (r ≡ true → Agrees c) ⌝ }
+    requires { ⌜ valid c ≡ true ⌝ }
+    ensures { λ r. ⌜ (r ≡ true → Clear (take 5 (partsA (recordIn c))) × Clear (drop 6 (partsA (recordIn c))) × Clear (take 1 (scramblingB (recordIn c)))) ⌝ }
 {
     let scrambled = both(
         c.has_scrambling_sequence_selector,
@@ -56,7 +68,7 @@ fn agrees(c: FlatRecord) -> bool
 
 // The wire can carry the core.
 fn core_fits(c: FlatRecord) -> bool
-    ensures { λ r. ⌜ (r ≡ true → CoreFits c) ⌝ }
+    ensures { λ r. ⌜ (r ≡ true → Clear (coreB (recordIn c))) ⌝ }
 {
     let first = joined(c.reserved_zero_future_use_2, c.channel_bond);
     let second = joined(c.polarization, c.ts_gs_s2x_mode);
@@ -75,7 +87,7 @@ fn core_fits(c: FlatRecord) -> bool
 
 // The wire can carry the scrambling index, where it is there.
 fn scrambling_fits(there: u8, index: u32, reserved: u8) -> bool
-    ensures { λ r. ⌜ (r ≡ true → ScramblingFits there index reserved) ⌝ }
+    ensures { λ r. ⌜ (r ≡ true → Clear (and (isOne there) (wide 18 index) ∷ and (isOne there) (wide 6 reserved) ∷ [])) ⌝ }
 {
     if there == 1 {
         index < 262144 && reserved < 64
@@ -86,7 +98,7 @@ fn scrambling_fits(there: u8, index: u32, reserved: u8) -> bool
 
 // Under channel_bond 1 there are one or two bonds, and the wire can carry their header; else there is none.
 fn bonds_fit(bond: u8, count: u8, reserved: u8) -> bool
-    ensures { λ r. ⌜ (r ≡ true → BondsFit bond count reserved) ⌝ }
+    ensures { λ r. ⌜ (r ≡ true → Clear (and (ltb 0 count) (not (eqb bond 1)) ∷ and (eqb bond 1) (wide 1 (lessOne count)) ∷ and (eqb bond 1) (wide 7 reserved) ∷ [])) ⌝ }
 {
     if bond == 1 {
         less_one(count) < 2 && reserved < 128
@@ -97,7 +109,7 @@ fn bonds_fit(bond: u8, count: u8, reserved: u8) -> bool
 
 // The block has what its selectors say, and the wire can carry it.
 fn block_fits(f: FlatSuperframe) -> bool
-    ensures { λ r. ⌜ (r ≡ true → BlockFits f) ⌝ }
+    ensures { λ r. ⌜ (r ≡ true → Clear (superframeA (OS.Some (blockIn f))) × Clear (superframeB (OS.Some (blockIn f)))) ⌝ }
 {
     f.reference_scrambling_index < 1048576
         && f.payload_scrambling_index < 1048576
@@ -111,15 +123,15 @@ fn block_fits(f: FlatSuperframe) -> bool
 
 // The same of a block that may be absent.
 fn superframe_fits(there: u8, f: FlatSuperframe) -> bool
-    ensures { λ r. ⌜ (r ≡ true → SuperframeFits there f) ⌝ }
+    ensures { λ r. ⌜ (r ≡ true → Clear (superframeA (someSuperframeIf (isOne there) (blockIn f))) × Clear (superframeB (someSuperframeIf (isOne there) (blockIn f)))) ⌝ }
 {
     if there == 1 { block_fits(f) } else { true }
 }
 
 // The record passes both lists.
 pub(crate) fn is_checked(c: FlatRecord) -> bool
-    requires { ⌜ Flagged c ⌝ }
-    ensures { λ r. ⌜ (r ≡ true → Checked (recordIn c)) ⌝ }
+    requires { ⌜ valid c ≡ true ⌝ }
+    ensures { λ r. ⌜ (r ≡ true → Clear (listA (recordIn c)) × Clear (listB (recordIn c))) ⌝ }
 {
     let block = c.superframe;
     agrees(c)

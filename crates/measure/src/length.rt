@@ -1,5 +1,6 @@
 // How many bytes a record takes.
 ghost use mathlib.Core.Path.{_≡_};
+ghost use mathlib.Core.Bool.{true};
 ghost use Prim.Native.Nat.{_+_, _*_, _≤_, _<_};
 ghost use lib.Dec.{eqb};
 ghost use Rattle.wire.specs.Flags.{isOne};
@@ -7,8 +8,7 @@ ghost use Rattle.wire.specs.Parts.{sizes};
 ghost use Rattle.s2xv2.specs.Options.{someSuperframeIf};
 ghost use Rattle.s2xv2.specs.Read.{only};
 ghost use Rattle.s2xv2.specs.Encode.{superframeParts, partsOf};
-ghost use Rattle.flat_in.specs.Input.{blockIn, recordIn};
-ghost use Rattle.measure.specs.Flagged.{FlaggedBlock, Flagged};
+ghost use Rattle.flat_in.specs.Input.{blockIn, recordIn, valid};
 use crate::flag::both;
 use flat::types::FlatRecord;
 use flat::types::FlatSuperframe;
@@ -42,7 +42,7 @@ fn bond_len(bond: u8, count: u8) -> usize
 
 // The superframe block: 8, or 12 with a plan id.
 fn superframe_len(there: u8, f: FlatSuperframe) -> usize
-    requires { ⌜ FlaggedBlock f ⌝ }
+    requires { ⌜ f .«beam_hopping_time_plan_selector» < 2 ⌝ }
     ensures { λ n. ⌜ (n ≡ sizes (superframeParts (someSuperframeIf (isOne there) (blockIn f)))) × (n ≤ 12) ⌝ }
 {
     if there == 1 {
@@ -54,7 +54,7 @@ fn superframe_len(there: u8, f: FlatSuperframe) -> usize
 
 // All parts, without the tail.
 pub(crate) fn parts_len(c: FlatRecord) -> usize
-    requires { ⌜ Flagged c ⌝ }
+    requires { ⌜ valid c ≡ true ⌝ }
     ensures { λ n. ⌜ (n ≡ sizes (partsOf (recordIn c))) × (n ≤ 1056) ⌝ }
 {
     let superframe = c.superframe;

@@ -1,13 +1,13 @@
 // Measures a record, and judges whether it can be written: every test that the writer makes, before its first store.
 ghost use mathlib.Core.Path.{_≡_};
+ghost use mathlib.Core.Bool.{true};
+ghost use mathlib.Core.List.{[], _∷_};
 ghost use Rattle.wire.specs.Flags.{when};
 ghost use Rattle.s2xv2.specs.Answer.{told};
 ghost use Rattle.s2xv2.specs.Length.{lengthTold};
 ghost use Rattle.s2xv2.specs.Write.{writeTold};
 ghost use Rattle.flat_in.specs.Input.{recordIn, valid, foreign};
 ghost use Rattle.flat.specs.Output.{answerOut};
-ghost use Rattle.measure.specs.Flagged.{Flagged};
-ghost use Rattle.measure.specs.Checks.{Ready};
 use crate::checks::is_checked;
 use flat::output::answer_of;
 use flat::output::answer_out;
@@ -30,7 +30,7 @@ mod length;
 
 // `serialized_len` of a record as numbers, with what it refuses.
 fn judged_len(c: FlatRecord, tail: &[u8]) -> Answer
-    requires { ⌜ Flagged c ⌝ }
+    requires { ⌜ valid c ≡ true ⌝ }
     ensures { λ a. ⌜ told a ≡ lengthTold (recordIn c) (now (tail .entry)) ⌝ }
 {
     let place = inconsistency(record_in(c));
@@ -48,7 +48,7 @@ fn judged_len(c: FlatRecord, tail: &[u8]) -> Answer
 
 // `write_answer` of a record as numbers, with what it refuses.
 fn judged(c: FlatRecord, tail: &[u8], room: usize) -> Answer
-    requires { ⌜ Flagged c ⌝ }
+    requires { ⌜ valid c ≡ true ⌝ }
     ensures { λ a. ⌜ told a ≡ writeTold (recordIn c) (now (tail .entry)) room ⌝ }
 {
     let measured = judged_len(c, tail);
@@ -67,8 +67,8 @@ fn judged(c: FlatRecord, tail: &[u8], room: usize) -> Answer
 
 // The number of bytes that a record takes with a tail if nothing is refused and that is at most `room`; or 0, where one of the tests has to say why.
 fn ready_len(c: FlatRecord, tail: &[u8], room: usize) -> usize
-    requires { ⌜ Flagged c ⌝ }
-    ensures { λ n. ⌜ Ready (recordIn c) (now (tail .entry)) room n ⌝ }
+    requires { ⌜ valid c ≡ true ⌝ }
+    ensures { λ n. ⌜ ((n ≡ 0 → ⊥) → (lengthTold (recordIn c) (now (tail .entry)) ≡ 0 ∷ n ∷ []) × (writeTold (recordIn c) (now (tail .entry)) room ≡ 0 ∷ n ∷ [])) ⌝ }
 {
     if is_checked(c) {
         let need = length::parts_len(c) + tail.len();

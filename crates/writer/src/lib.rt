@@ -1,5 +1,6 @@
 // Writes the body of an S2Xv2 satellite delivery system descriptor.
 ghost use mathlib.Core.Path.{_≡_};
+ghost use mathlib.Core.Bool.{true};
 ghost use mathlib.Core.List.{_++_};
 ghost use Prim.Native.Nat.{_≤_};
 ghost use lib.ListN.{length, drop};
@@ -11,7 +12,6 @@ ghost use Rattle.s2xv2.specs.Write.{writeTold, written};
 ghost use Rattle.s2xv2.proofs.Lists.{Clear};
 ghost use Rattle.flat_in.specs.Input.{recordIn, valid, foreign};
 ghost use Rattle.flat.specs.Output.{answerOut};
-ghost use Rattle.measure.specs.Flagged.{Flagged};
 use flat::output::record_out;
 use flat::types::FlatAnswer;
 use flat::types::FlatRecord;
@@ -28,7 +28,7 @@ mod store;
 // The last id stands at the place that the count minus one tells.
 fn put_all(buf: &mut [u8], c: FlatRecord, tail: &[u8])
     requires { ⌜ encodedLength (recordIn c) (now tail) ≤ length (now buf) ⌝ }
-    requires { ⌜ Flagged c ⌝ }
+    requires { ⌜ valid c ≡ true ⌝ }
     requires { ⌜ Clear (listB (recordIn c)) ⌝ }
     ensures { λ _. ⌜ now (buf .exit) ≡ encode (recordIn c) (now (tail .entry)) ++ drop (encodedLength (recordIn c) (now (tail .entry))) (now (buf .entry)) ⌝ }
 {

@@ -1,25 +1,23 @@
 // The parts of a record as bytes. Each function stores its part from a place on and answers the place behind it; it requires room for the
 // part, that each flag is 0 or 1, and that list B found nothing in it.
 ghost use mathlib.Core.List.{[], _∷_};
-ghost use mathlib.Core.Bool.{false};
+ghost use mathlib.Core.Bool.{true, false};
 ghost use mathlib.Core.Path.{_≡_};
 ghost use Prim.Native.Nat.{_+_, _*_, _%_, _≤_, _<_};
-ghost use lib.ListN.{length};
+ghost use lib.ListN.{length, take, drop};
 ghost use lib.Dec.{eqb};
 ghost use Rattle.wire.specs.Flags.{isOne, and};
 ghost use Rattle.wire.specs.Store.{stored};
 ghost use Rattle.wire.specs.Widths.{pack};
 ghost use Rattle.wire.specs.Parts.{bytesOf, sizes};
-ghost use Rattle.s2xv2.specs.Table144b.{core};
+ghost use Rattle.s2xv2.specs.Table144b.{core, superframe};
 ghost use Rattle.s2xv2.specs.Options.{some8If, someSuperframeIf};
-ghost use Rattle.s2xv2.specs.Encode.{coreValues, byteParts, scramblingParts, lessOne, bondParts, planParts, blockParts, superframeParts};
+ghost use Rattle.s2xv2.specs.Encode.{coreValues, byteParts, scramblingParts, lessOne, bondParts, superframeValues, planParts, blockParts, superframeParts};
 ghost use Rattle.s2xv2.specs.ListB.{wide, coreB, superframeB};
 ghost use Rattle.s2xv2.proofs.Lists.{Clear};
 ghost use Rattle.s2xv2.specs.declared.option.OptionU32.the-variants as O32;
 ghost use Rattle.s2xv2.specs.declared.superframe.OptionSuperframe.the-variants as OS;
-ghost use Rattle.flat_in.specs.Input.{blockIn, recordIn};
-ghost use Rattle.writer.specs.Bytes.{flagBytes, blockBytes};
-ghost use Rattle.measure.specs.Flagged.{FlaggedBlock, Flagged};
+ghost use Rattle.flat_in.specs.Input.{blockIn, recordIn, valid, flags, blockFlags};
 use crate::store::copy;
 use crate::store::put;
 use crate::store::put_24;
@@ -56,9 +54,9 @@ fn byte_6(top: u8, tsgs: u8, profiles: u8) -> u8
 
 // Bytes 4 to 6.
 fn flag_bytes(c: FlatRecord) -> [u8; 3]
-    requires { ⌜ Flagged c ⌝ }
+    requires { ⌜ valid c ≡ true ⌝ }
     requires { ⌜ Clear (coreB (recordIn c)) ⌝ }
-    ensures { λ a. ⌜ a ≡ flagBytes (recordIn c) ⌝ }
+    ensures { λ a. ⌜ a ≡ take 3 (drop 4 (pack core (coreValues (recordIn c)))) ⌝ }
 {
     let b4 = byte_4(c.s2xv2_mode, c.multiple_input_stream_flag, c.roll_off);
     let b5 = byte_5(
@@ -80,7 +78,7 @@ fn flag_bytes(c: FlatRecord) -> [u8; 3]
 // The core, from the start.
 pub(crate) fn put_core(buf: &mut [u8], c: FlatRecord)
     requires { ⌜ 18 ≤ length (now buf) ⌝ }
-    requires { ⌜ Flagged c ⌝ }
+    requires { ⌜ valid c ≡ true ⌝ }
     requires { ⌜ Clear (coreB (recordIn c)) ⌝ }
     ensures { λ _. ⌜ now (buf .exit) ≡ stored (now (buf .entry)) 0 (pack core (coreValues (recordIn c))) ⌝ }
 {
@@ -203,9 +201,9 @@ fn octet(v: u8) -> u8
 
 // The block up to its plan id.
 fn block_bytes(f: FlatSuperframe) -> [u8; 7]
-    requires { ⌜ FlaggedBlock f ⌝ }
+    requires { ⌜ flags (blockFlags f) ≡ true ⌝ }
     requires { ⌜ Clear (superframeB (OS.Some (blockIn f))) ⌝ }
-    ensures { λ a. ⌜ a ≡ blockBytes (blockIn f) ⌝ }
+    ensures { λ a. ⌜ a ≡ pack superframe (superframeValues (blockIn f)) ⌝ }
 {
     let reference = be_bytes_24(reference_word(
         f.sffi_selector,
@@ -242,7 +240,7 @@ fn put_plan(buf: &mut [u8], p: usize, there: u8, plan: u32) -> usize
 // The superframe block: its first seven bytes, the plan id if its selector is set, and the last byte.
 fn put_block(buf: &mut [u8], p: usize, f: FlatSuperframe) -> usize
     requires { ⌜ p + sizes (blockParts (blockIn f)) ≤ length (now buf) ⌝ }
-    requires { ⌜ FlaggedBlock f ⌝ }
+    requires { ⌜ flags (blockFlags f) ≡ true ⌝ }
     requires { ⌜ Clear (superframeB (OS.Some (blockIn f))) ⌝ }
     ensures { λ q. ⌜ (q ≡ p + sizes (blockParts (blockIn f))) × (now (buf .exit) ≡ stored (now (buf .entry)) p (bytesOf (blockParts (blockIn f)) [])) ⌝ }
 {
@@ -262,7 +260,7 @@ fn put_block(buf: &mut [u8], p: usize, f: FlatSuperframe) -> usize
 // The superframe block, if it is there.
 pub(crate) fn put_superframe(buf: &mut [u8], p: usize, there: u8, f: FlatSuperframe) -> usize
     requires { ⌜ p + sizes (superframeParts (someSuperframeIf (isOne there) (blockIn f))) ≤ length (now buf) ⌝ }
-    requires { ⌜ FlaggedBlock f ⌝ }
+    requires { ⌜ flags (blockFlags f) ≡ true ⌝ }
     requires { ⌜ Clear (superframeB (someSuperframeIf (isOne there) (blockIn f))) ⌝ }
     ensures { λ q. ⌜ (q ≡ p + sizes (superframeParts (someSuperframeIf (isOne there) (blockIn f)))) × (now (buf .exit) ≡ stored (now (buf .entry)) p (bytesOf (superframeParts (someSuperframeIf (isOne there) (blockIn f))) [])) ⌝ }
 {

@@ -8,8 +8,9 @@ use Rattle.s2xv2.specs.Read.{numberOf}
 use Rattle.s2xv2.specs.ListB.{unwritable}
 use Rattle.s2xv2.specs.Length.{lengthTold}
 use Rattle.s2xv2.proofs.Reach.{refused}
-use Rattle.s2xv2.proofs.Written.{measured, refused-alike, told-room, told-field, told-written}
+use Rattle.s2xv2.proofs.Written.{refused-alike}
 use Rattle.flat_in.specs.Input.{recordIn}
+use Rattle.measure.proofs.Accepted.{judged-room, judged-field, judged-written}
 use borrow.Author.Needs.{needs}
 use Rattle.measure.proofs.judged.Statement.{statement}
 use Rattle.measure.proofs.judged.Tie as tie
@@ -33,11 +34,8 @@ returns c =
 
 returns-2 : tie.Need-returns-2
 returns-2 c =
-    let r = recordIn (c .before .before .before .before .before .before .args .c) in
-    let t = now (c .before .before .before .before .before .before .args .tail) in
-    let m = measured r t _ (sym (ap told (c .before .before .measured .given .1)) ∙ c .before .before .before .before .judged-len .ensures) in
-    let e = told-room r t (m .consistent) (omega (arith, m .size, m .within)) (c .before .before .before .before .before .before .args .room) (omega (arith, m .size, c .if1 .taken)) in
-    sym (rw (m .size) at e)
+    let a = c .before .before .before .before .before .before .args in
+    judged-room (recordIn (a .c)) (now (a .tail)) _ (a .room) (sym (ap told (c .before .before .measured .given .1)) ∙ c .before .before .before .before .judged-len .ensures) (c .if1 .taken)
 
 record-in-requires : tie.Need-record-in-requires
 record-in-requires c κs = search needs
@@ -47,23 +45,17 @@ unwritable-requires c κs = search needs
 
 returns-3 : tie.Need-returns-3
 returns-3 c =
-    let start = c .before .before .before .before .before .before .before .before .before in
-    let r = recordIn (start .args .c) in
-    let t = now (start .args .tail) in
-    let m = measured r t _ (sym (ap told (c .before .before .before .before .before .measured .given .1)) ∙ c .before .before .before .before .before .before .before .judged-len .ensures) in
+    let a = c .before .before .before .before .before .before .before .before .before .args in
+    let e = sym (ap told (c .before .before .before .before .before .measured .given .1)) ∙ c .before .before .before .before .before .before .before .judged-len .ensures in
     let u = c .before .unwritable .ensures ∙ ap unwritable (c .before .before .record-in .ensures) in
-    let e = told-field r t (m .consistent) (omega (arith, m .size, m .within)) (start .args .room) (omega (arith, m .size, c .before .before .before .if1 .left)) (omega (arith, u, c .if2 .taken)) in
-    sym (rw (← u) at e)
+    judged-field (recordIn (a .c)) (now (a .tail)) _ (a .room) e (c .before .before .before .if1 .left) _ u (omega (arith, c .if2 .taken))
 
 returns-4 : tie.Need-returns-4
 returns-4 c =
-    let start = c .before .before .before .before .before .before .before .before .before in
-    let r = recordIn (start .args .c) in
-    let t = now (start .args .tail) in
-    let m = measured r t _ (sym (ap told (c .before .before .before .before .before .measured .given .1)) ∙ c .before .before .before .before .before .before .before .judged-len .ensures) in
+    let a = c .before .before .before .before .before .before .before .before .before .args in
+    let e = sym (ap told (c .before .before .before .before .before .measured .given .1)) ∙ c .before .before .before .before .before .before .before .judged-len .ensures in
     let u = c .before .unwritable .ensures ∙ ap unwritable (c .before .before .record-in .ensures) in
-    let e = told-written r t (m .consistent) (omega (arith, m .size, m .within)) (start .args .room) (omega (arith, m .size, c .before .before .before .if1 .left)) (sym u ∙ c .if2 .left) in
-    rw (m .size) at (sym e)
+    judged-written (recordIn (a .c)) (now (a .tail)) _ (a .room) e (c .before .before .before .if1 .left) (sym u ∙ c .if2 .left)
 
 pub judged-spec : {M : Type 1} → statement M
 judged-spec =

@@ -5,6 +5,7 @@ use Prim.Native.Nat.{ℕ, _+_}
 use lib.ListN.{length}
 use denote.Ref.{now}
 use Rattle.s2xv2.specs.Encode.{encodedLength}
+use Rattle.measure.proofs.Accepted.{accepted}
 use borrow.Author.Needs.{needs}
 use Rattle.measure.proofs.ready_len.Statement.{statement}
 use Rattle.measure.proofs.ready_len.Tie as tie
@@ -27,12 +28,9 @@ returns-2 c = λ n. absurd (n refl)
 returns-3 : tie.Need-returns-3
 unfolding encodedLength
 returns-3 c =
-    λ n. record {
-      lists = c .before .before .before .before .is-checked .ensures (c .before .before .before .if1 .taken);
-      size = ap (λ (k : ℕ). k + length (now (c .before .before .before .before .before .before .args .tail))) (c .before .before .parts-len .ensures .0);
-      within = c .before .if2 .left;
-      fits = c .if3 .left;
-    }
+    let t = now (c .before .before .before .before .before .before .args .tail) in
+    λ n. accepted _ t _ _ (c .before .before .before .before .is-checked .ensures (c .before .before .before .if1 .taken))
+    (ap (λ (k : ℕ). k + length t) (c .before .before .parts-len .ensures .0)) (c .before .if2 .left) (c .if3 .left)
 
 returns-4 : tie.Need-returns-4
 returns-4 c = λ n. absurd (n refl)

@@ -1,10 +1,6 @@
 -- `measure::write_answer_flat` meets its contract: the tests pick the case; what nothing refuses is accepted with its length.
 -- Assumes nothing.
 use mathlib.Core.Path.{sym, _∙_}
-use denote.Ref.{now}
-use Rattle.flat_in.specs.Input.{recordIn}
-use Rattle.measure.proofs.Flags.{flagged}
-use Rattle.measure.proofs.Accepted.{write-accepted}
 use borrow.Author.Needs.{needs}
 use Rattle.measure.proofs.write_answer_flat.Statement.{statement}
 use Rattle.measure.proofs.write_answer_flat.Tie as tie
@@ -13,10 +9,10 @@ is-valid-requires : tie.Need-is-valid-requires
 is-valid-requires c κs = search needs
 
 ready-len-requires : tie.Need-ready-len-requires
-ready-len-requires c κs = flagged _ (sym (c .before .is-valid .ensures) ∙ c .if1 .taken)
+ready-len-requires c κs = sym (c .before .is-valid .ensures) ∙ c .if1 .taken
 
 judged-requires : tie.Need-judged-requires
-judged-requires c κs = flagged _ (sym (c .before .before .before .is-valid .ensures) ∙ c .before .before .if1 .taken)
+judged-requires c κs = sym (c .before .before .before .is-valid .ensures) ∙ c .before .before .if1 .taken
 
 answer-out-requires : tie.Need-answer-out-requires
 answer-out-requires c κs = search needs
@@ -28,13 +24,7 @@ returns : tie.Need-returns
 returns c = simp (c .answer-out .ensures, c .before .judged .ensures, sym (c .before .before .before .before .before .is-valid .ensures) ∙ c .before .before .before .before .if1 .taken)
 
 returns-2 : tie.Need-returns-2
-returns-2 c =
-    let a = c .before .before .before .before .before .before .args in
-    simp (
-      c .answer-of .ensures,
-      sym (c .before .before .before .before .is-valid .ensures) ∙ c .before .before .before .if1 .taken,
-      sym (write-accepted (recordIn (a .c)) (now (a .reserved-tail)) (a .room) _ (c .before .before .ready-len .ensures (c .before .if2 .left))),
-    )
+returns-2 c = simp (c .answer-of .ensures, c .before .before .ready-len .ensures (c .before .if2 .left) .1, sym (c .before .before .before .before .is-valid .ensures) ∙ c .before .before .before .if1 .taken)
 
 returns-3 : tie.Need-returns-3
 returns-3 c = simp (sym (c .before .is-valid .ensures) ∙ c .if1 .left)

@@ -8,7 +8,6 @@ use Rattle.s2xv2.proofs.Lists.{first-clear}
 use Rattle.s2xv2.proofs.Written.{told-written, written-accepted}
 use Rattle.flat_in.specs.Input.{recordIn}
 use Rattle.flat.specs.declared.types.FlatAnswer.{FlatAnswer}
-use Rattle.measure.proofs.Flags.{flagged}
 use Rattle.writer.proofs.Crossed.{accepted-flat, refused-flat}
 use borrow.Author.Needs.{needs}
 use Rattle.writer.proofs.serialize_flat.Statement.{statement}
@@ -23,7 +22,7 @@ put-all-requires c κs =
     let a = c .before .before .before .before .before .before .args in
     let r = recordIn (a .c) in
     let w = accepted-flat (a .c) (now (a .reserved-tail)) (length (now (a .buf))) (rw (c .before .before .before .write-answer-flat .ensures) at (c .before .if1 .taken)) in
-    (w .1 .fits, (flagged _ (w .0), first-clear 0 (listB r) (w .1 .carried)))
+    (w .1 .fits, (w .0, first-clear 0 (listB r) (w .1 .carried)))
 
 same-length : tie.Need-same-length
 same-length c = search needs

@@ -1,20 +1,18 @@
 -- `writer::serialize_into` meets its contract: what is accepted is stored, and what is refused leaves the buffer.
 -- Assumes nothing.
 use mathlib.Core.Path.{sym, ap, subst, _∙_}
-use mathlib.Core.List.{_++_}
 use Prim.Native.Nat.{_≤_}
-use lib.ListN.{length, drop}
+use lib.ListN.{length}
 use denote.Ref.{now}
 use Rattle.s2xv2.specs.Answer.{told}
 use Rattle.s2xv2.specs.Read.{numberOf}
-use Rattle.s2xv2.specs.Encode.{encode, encodedLength}
+use Rattle.s2xv2.specs.Encode.{encodedLength}
 use Rattle.s2xv2.specs.ListB.{listB, unwritable}
 use Rattle.s2xv2.specs.declared.record.S2Xv2SatelliteDeliverySystem.{S2Xv2SatelliteDeliverySystem}
 use Rattle.s2xv2.proofs.Lists.{Clear, first-clear}
 use Rattle.s2xv2.proofs.Written.{accepted-writable, written-accepted, written-refused}
 use Rattle.flat_in.specs.Input.{recordIn}
 use Rattle.flat_in.proofs.Back.{back, out-valid}
-use Rattle.measure.proofs.Flags.{flagged}
 use borrow.Author.Needs.{needs}
 use Rattle.writer.proofs.serialize_into.Statement.{statement}
 use Rattle.writer.proofs.serialize_into.Tie as tie
@@ -36,7 +34,7 @@ put-all-requires c κs =
     let w = accepted-writable (a .r) t (length (now (a .buf))) (ap numberOf (sym (c .before .before .before .before .write-answer .ensures) ∙ ap told (c .before .before .enum-told .given .1))) in
     let e = ap recordIn (c .record-out .ensures) ∙ back (a .r) in (
       subst (λ (r : S2Xv2SatelliteDeliverySystem). encodedLength r t ≤ length (now (a .buf))) (sym e) (w .fits),
-      (rw (c .record-out .ensures) (flagged _ (out-valid (a .r))), subst (λ (r : S2Xv2SatelliteDeliverySystem). Clear (listB r)) (sym e) (first-clear 0 (listB (a .r)) (w .carried))),
+      (rw (c .record-out .ensures) (out-valid (a .r)), subst (λ (r : S2Xv2SatelliteDeliverySystem). Clear (listB r)) (sym e) (first-clear 0 (listB (a .r)) (w .carried))),
     )
 
 enum-told-2 : tie.Need-enum-told-2
@@ -51,7 +49,8 @@ returns c =
     let a = c .before .before .before .before .before .before .before .before .before .before .args in
     let t = now (a .reserved-tail) in
     let e = ap recordIn (c .before .before .before .record-out .ensures) ∙ back (a .r) in
-    (write-answer .ensures, c .before .before .put-all .ensures ∙ ap (λ (r : S2Xv2SatelliteDeliverySystem). encode r t ++ drop (encodedLength r t) (now (a .buf))) e ∙ sym (written-accepted (a .r) t (now (a .buf)) _ (sym (ap told (c .before .before .before .before .before .enum-told .given .1)) ∙ write-answer .ensures)))
+    let w = written-accepted (a .r) t (now (a .buf)) _ (sym (ap told (c .before .before .before .before .before .enum-told .given .1)) ∙ write-answer .ensures) in
+    (write-answer .ensures, rw e at (c .before .before .put-all .ensures) ∙ sym w)
 
 returns-2 : tie.Need-returns-2
 returns-2 c =

@@ -1,8 +1,10 @@
 -- `measure::checks::bonds_fit` meets its contract: the tests that hold bound the numbers.
 -- Assumes nothing.
-use mathlib.Core.Path.{sym, _∙_}
-use borrow.Author.Tests.{ltb-true, le-ltb, eqb-true}
-use Rattle.measure.proofs.Flags.{never}
+use mathlib.Core.Path.{refl, sym, _∙_}
+use lib.Dec.{ltb}
+use borrow.Author.Tests.{le-ltb, lt-leb, eq-eqb, ne-eqb, eqb-true}
+use Rattle.lists.proofs.Laws.{and-false}
+use Rattle.measure.proofs.Flags.{never, fits}
 use borrow.Author.Needs.{needs}
 use Rattle.measure.proofs.checks.bonds_fit.Statement.{statement}
 use Rattle.measure.proofs.checks.bonds_fit.Tie as tie
@@ -11,13 +13,15 @@ less-one-requires : tie.Need-less-one-requires
 less-one-requires c κs = search needs
 
 returns : tie.Need-returns
-returns c = λ e. record { some = λ h. (rw (c .before .less-one .ensures) at (c .if2 .taken), ltb-true _ _ e); none = λ n. absurd (n (c .before .before .if1 .taken)) }
+returns c =
+    let a = c .before .before .before .args in
+    λ e. rw (eq-eqb _ _ (c .before .before .if1 .taken)) (and-false (ltb 0 (a .count)), (lt-leb 2 _ (rw (c .before .less-one .ensures) at (c .if2 .taken)), (fits 128 (a .reserved) e, tt)))
 
 returns-2 : tie.Need-returns-2
 returns-2 c = λ e. never (sym (le-ltb _ _ (c .if2 .left)) ∙ e)
 
 returns-3 : tie.Need-returns-3
-returns-3 c = λ e. record { some = λ h. absurd (c .if1 .left h); none = λ n. eqb-true _ _ e }
+returns-3 c = λ e. rw (ne-eqb _ _ (c .if1 .left), eqb-true (c .before .args .count) 0 e) (refl, (refl, (refl, tt)))
 
 pub bonds-fit-spec : {M : Type 1} → statement M
 bonds-fit-spec = tie.close (tie.spec less-one-requires returns returns-2 returns-3)

@@ -1,8 +1,11 @@
 -- `measure::checks::core_fits` meets its contract: the tests that hold bound the numbers.
 -- Assumes nothing.
 use mathlib.Core.Path.{sym, _∙_}
-use borrow.Author.Tests.{ltb-true, le-ltb}
-use Rattle.measure.proofs.Flags.{never, on-the-way, four-joined}
+use borrow.Author.Tests.{ltb-true, le-ltb, lt-leb}
+use Rattle.wire.specs.Flags.{isOne}
+use Rattle.measure.proofs.Flags.{never, on-the-way, fits, four-joined}
+use Rattle.measure.proofs.Due.{code-in}
+use Rattle.measure.proofs.Checked.{top-clear}
 use borrow.Author.Needs.{needs}
 use Rattle.measure.proofs.checks.core_fits.Statement.{statement}
 use Rattle.measure.proofs.checks.core_fits.Tie as tie
@@ -28,18 +31,29 @@ returns c =
     let w2 = on-the-way (c .before .before .before .before .if2 .came) (λ l. l .1 ∙ l .0 .left) (w3 .0 .taken) in
     let w1 = on-the-way (c .before .before .before .before .before .if1 .came) (λ l. l .1 ∙ le-ltb _ _ (l .0 .left)) (w2 .0 .taken) in
     let r = c .before .before .before .before .before .before .before .before .before .before .args .c in
-    let q = four-joined (r .«reserved_zero_future_use_2») (r .«channel_bond») (r .polarization) (r .«ts_gs_s2x_mode») _ _ _ (c .before .before .before .before .before .before .before .before .before .joined .ensures) (c .before .before .before .before .before .before .before .before .joined2 .ensures) (c .before .before .before .before .before .before .joined3 .ensures) (w1 .0 .taken) in
-    record {
-      mode = ltb-true _ _ (sym (w1 .2) ∙ w2 .0 .taken);
-      roll = ltb-true _ _ (sym (w2 .2) ∙ w3 .0 .taken);
-      reserved = q .0;
-      bond = q .1;
-      polarization = q .2;
-      top = rw (picked .ensures) at (ltb-true (picked .result) 2 (sym (w4 .1) ∙ c .before .if5 .taken));
-      tsgs = q .3;
-      profiles = ltb-true _ _ (sym (w3 .2) ∙ w4 .0 .taken);
-      satellite = ltb-true _ _ e;
-    }
+    let joined = c .before .before .before .before .before .before .before .before .before .joined in
+    let joined2 = c .before .before .before .before .before .before .before .before .joined2 in
+    let joined3 = c .before .before .before .before .before .before .joined3 in
+    let q = four-joined (r .«reserved_zero_future_use_2») (r .«channel_bond») (r .polarization) (r .«ts_gs_s2x_mode») _ _ _ (joined .ensures) (joined2 .ensures) (joined3 .ensures) (w1 .0 .taken) in
+    let top = rw (picked .ensures) at (ltb-true (picked .result) 2 (sym (w4 .1) ∙ c .before .if5 .taken)) in (
+      rw (code-in (r .«mode_is_reserved») (r .«s2xv2_mode»)) (fits 16 (r .«s2xv2_mode») (sym (w1 .2) ∙ w2 .0 .taken)),
+      (
+        fits 8 (r .«roll_off») (sym (w2 .2) ∙ w3 .0 .taken),
+        (
+          lt-leb 4 _ (q .0),
+          (
+            lt-leb 4 _ (q .1),
+            (
+              lt-leb 4 _ (q .2),
+              (
+                top-clear (isOne (r .«has_scrambling_sequence_selector»)) _ (r .«reserved_zero_future_use_1») top,
+                (lt-leb 4 _ (q .3), (fits 32 (r .«receiver_profiles») (sym (w3 .2) ∙ w4 .0 .taken), (fits 16777216 (r .«satellite_id») e, tt))),
+              ),
+            ),
+          ),
+        ),
+      ),
+    )
 
 returns-2 : tie.Need-returns-2
 returns-2 c = λ e. never (sym (c .if5 .left) ∙ e)

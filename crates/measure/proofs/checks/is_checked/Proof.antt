@@ -29,7 +29,8 @@ returns c =
     let w3 = on-the-way (c .before .before .if3 .came) (λ l. l .1 ∙ l .0 .left) (c .before .if4 .taken) in
     let w2 = on-the-way (c .before .before .before .if2 .came) (λ l. l .1 ∙ l .0 .left) (w3 .0 .taken) in
     let w1 = on-the-way (c .before .before .before .before .if1 .came) (λ l. l .1 ∙ l .0 .left) (w2 .0 .taken) in
-    checked (start .args .c) (start .pre) (c .before .before .before .before .before .agrees .ensures (w1 .0 .taken)) (w1 .1 .ensures (sym (w1 .2) ∙ w2 .0 .taken)) (w2 .1 .ensures (sym (w2 .2) ∙ w3 .0 .taken)) (w3 .1 .ensures (sym (w3 .2) ∙ c .before .if4 .taken)) (c .bonds-fit .ensures e)
+    checked (start .args .c) (c .before .before .before .before .before .agrees .ensures (w1 .0 .taken)) (w1 .1 .ensures (sym (w1 .2) ∙ w2 .0 .taken))
+    (w2 .1 .ensures (sym (w2 .2) ∙ w3 .0 .taken)) (w3 .1 .ensures (sym (w3 .2) ∙ c .before .if4 .taken)) (c .bonds-fit .ensures e)
 
 returns-2 : tie.Need-returns-2
 returns-2 c = λ e. never (sym (c .if4 .left) ∙ e)

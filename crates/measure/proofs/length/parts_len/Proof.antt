@@ -4,16 +4,16 @@ use native.Mathlib.Omega.{arith}
 use Rattle.s2xv2.proofs.Whole.{parts-size}
 use Rattle.flat_in.specs.Input.{recordIn}
 use Rattle.flat_in.proofs.Back.{is-8, is-selected}
-use Rattle.measure.proofs.Flags.{is-bit}
+use Rattle.measure.proofs.Flags.{is-bit, flagged, flagged-block, block-flags}
 use borrow.Author.Needs.{needs}
 use Rattle.measure.proofs.length.parts_len.Statement.{statement}
 use Rattle.measure.proofs.length.parts_len.Tie as tie
 
 both-requires : tie.Need-both-requires
-both-requires c κs = search needs
+both-requires c κs = let g = flagged (c .before .args .c) (c .before .pre) in (g .scrambled, g .selector)
 
 byte-len-requires : tie.Need-byte-len-requires
-byte-len-requires c κs = search needs
+byte-len-requires c κs = flagged (c .before .before .args .c) (c .before .before .pre) .stream
 
 add-result : tie.Need-add-result
 add-result c = search needs
@@ -25,7 +25,7 @@ add-result-2 : tie.Need-add-result-2
 add-result-2 c = search needs
 
 byte-len-requires-2 : tie.Need-byte-len-requires-2
-byte-len-requires-2 c κs = search needs
+byte-len-requires-2 c κs = flagged (c .before .before .before .before .args .c) (c .before .before .before .before .pre) .timeslice
 
 add-result-3 : tie.Need-add-result-3
 add-result-3 c = search needs
@@ -37,7 +37,7 @@ add-result-4 : tie.Need-add-result-4
 add-result-4 c = search needs
 
 superframe-len-requires : tie.Need-superframe-len-requires
-superframe-len-requires c κs = search needs
+superframe-len-requires c κs = let start = c .before .before .before .before .before .before in flagged-block (start .args .c .superframe) (block-flags (start .args .c) (start .pre)) .hopping
 
 add-result-5 : tie.Need-add-result-5
 add-result-5 c = search needs

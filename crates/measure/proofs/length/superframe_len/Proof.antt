@@ -19,7 +19,7 @@ add-result c = search needs
 
 returns : tie.Need-returns
 unfolding superframeParts
-returns c = rw (eq-eqb _ _ (c .before .if1 .taken)) (block-size (c .before .before .args .f) (c .before .before .pre), omega (arith, c .before .before .pre .hopping))
+returns c = rw (eq-eqb _ _ (c .before .if1 .taken)) (block-size (c .before .before .args .f) (c .before .before .pre), omega (arith, c .before .before .pre))
 
 returns-2 : tie.Need-returns-2
 unfolding superframeParts

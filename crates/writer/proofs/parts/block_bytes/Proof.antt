@@ -5,14 +5,16 @@ use Rattle.wire.specs.Flags.{isOne}
 use Rattle.s2xv2.specs.Options.{some8If}
 use Rattle.s2xv2.specs.Encode.{nibbleOf}
 use Rattle.flat_in.proofs.Back.{is-8}
-use Rattle.measure.proofs.Flags.{bit-is}
+use Rattle.measure.proofs.Flags.{bit-is, flagged-block}
 use Rattle.writer.proofs.Flags.{there-nibble}
 use borrow.Author.Needs.{needs}
 use Rattle.writer.proofs.parts.block_bytes.Statement.{statement}
 use Rattle.writer.proofs.parts.block_bytes.Tie as tie
 
 reference-word-requires : tie.Need-reference-word-requires
-reference-word-requires c κs = search needs
+reference-word-requires c κs =
+    let g = flagged-block (c .args .f) (c .pre .0) in
+    search needs
 
 be-bytes-24-requires : tie.Need-be-bytes-24-requires
 be-bytes-24-requires c κs = search needs
@@ -25,7 +27,8 @@ payload-word-requires c κs =
     let f = c .before .before .before .args .f in
     let b = c .before .before .before .pre .1 in
     let n = there-nibble (isOne (f .«sffi_selector»)) (isOne (f .«has_sffi»)) (f .sffi) (f .«reserved_zero_future_use_4») (rw (is-8 (isOne (f .«has_sffi»)) (f .sffi)) at (b .1 .1 .1 .0)) in
-    (rw (c .picked .ensures) (rw n at (narrow 4 (nibbleOf (isOne (f .«sffi_selector»)) (some8If (isOne (f .«has_sffi»)) (f .sffi)) (f .«reserved_zero_future_use_4»)) (b .1 .1 .1 .1 .0))), narrow 20 _ (b .1 .0))
+    let k = narrow 4 (nibbleOf (isOne (f .«sffi_selector»)) (some8If (isOne (f .«has_sffi»)) (f .sffi)) (f .«reserved_zero_future_use_4»)) (b .1 .1 .1 .1 .0) in
+    (rw (c .picked .ensures) (rw n at k), narrow 20 _ (b .1 .0))
 
 be-bytes-24-requires-2 : tie.Need-be-bytes-24-requires-2
 be-bytes-24-requires-2 c κs = search needs
@@ -55,7 +58,7 @@ returns : tie.Need-returns
 returns c =
     let f = c .before .before .before .before .before .before .args .f in
     let b = c .before .before .before .before .before .before .pre .1 in
-    let g = c .before .before .before .before .before .before .pre .0 in
+    let g = flagged-block f (c .before .before .before .before .before .before .pre .0) in
     simp (
       c .octet .ensures,
       c .before .be-bytes-242 .ensures,

@@ -4,9 +4,9 @@ use Rattle.s2xv2.proofs.Lists.{narrow}
 use Rattle.wire.specs.Flags.{isOne}
 use Rattle.s2xv2.specs.Table144c.{codeOf}
 use Rattle.flat_in.specs.Input.{modeIn}
-use Rattle.measure.proofs.Flags.{bit-is}
+use Rattle.measure.proofs.Flags.{bit-is, flagged}
 use Rattle.writer.proofs.Flags.{top-is, top-small}
-use Rattle.measure.proofs.Checked.{code-in}
+use Rattle.measure.proofs.Due.{code-in}
 use borrow.Author.Needs.{needs}
 use Rattle.writer.proofs.parts.flag_bytes.Statement.{statement}
 use Rattle.writer.proofs.parts.flag_bytes.Tie as tie
@@ -15,10 +15,12 @@ byte-4-requires : tie.Need-byte-4-requires
 byte-4-requires c κs =
     let r = c .args .c in
     let b = c .pre .1 in
-    (rw (code-in (r .«mode_is_reserved») (r .«s2xv2_mode»)) at (narrow 4 (codeOf (modeIn (r .«mode_is_reserved») (r .«s2xv2_mode»))) (b .0)), c .pre .0 .flag, narrow 3 _ (b .1 .0))
+    (rw (code-in (r .«mode_is_reserved») (r .«s2xv2_mode»)) at (narrow 4 (codeOf (modeIn (r .«mode_is_reserved») (r .«s2xv2_mode»))) (b .0)), flagged r (c .pre .0) .flag, narrow 3 _ (b .1 .0))
 
 byte-5-requires : tie.Need-byte-5-requires
-byte-5-requires c κs = search needs
+byte-5-requires c κs =
+    let g = flagged (c .before .args .c) (c .before .pre .0) in
+    search needs
 
 picked-requires : tie.Need-picked-requires
 picked-requires c κs = search needs
@@ -27,12 +29,14 @@ byte-6-requires : tie.Need-byte-6-requires
 byte-6-requires c κs =
     let r = c .before .before .before .args .c in
     let b = c .before .before .before .pre .1 .1 .1 .1 .1 .1 in
-    (rw (c .picked .ensures) (top-small (isOne (r .«has_scrambling_sequence_selector»)) (r .«scrambling_sequence_selector») (r .«reserved_zero_future_use_1») (c .before .before .before .pre .0 .selector) (b .0)), narrow 2 _ (b .1 .0), narrow 5 _ (b .1 .1 .0))
+    let s = flagged r (c .before .before .before .pre .0) .selector in
+    let top = top-small (isOne (r .«has_scrambling_sequence_selector»)) (r .«scrambling_sequence_selector») (r .«reserved_zero_future_use_1») s (b .0) in
+    (rw (c .picked .ensures) top, narrow 2 _ (b .1 .0), narrow 5 _ (b .1 .1 .0))
 
 returns : tie.Need-returns
 returns c =
     let r = c .before .before .before .before .args .c in
-    let g = c .before .before .before .before .pre .0 in
+    let g = flagged r (c .before .before .before .before .pre .0) in
     simp (
       c .byte-6 .ensures,
       c .before .picked .ensures,

@@ -8,14 +8,14 @@ use denote.Ref.{now}
 use Rattle.wire.specs.Store.{stored}
 use Rattle.wire.specs.Flags.{isOne}
 use Rattle.wire.proofs.Stores.{run}
+use Rattle.wire.specs.Widths.{pack}
 use Rattle.wire.specs.Parts.{Part, _⦂_}
 use Rattle.wire.proofs.Parts.{sizes-append}
 use Rattle.s2xv2.specs.Table144b as T
-use Rattle.s2xv2.specs.Encode.{planParts, superframeEndValues}
+use Rattle.s2xv2.specs.Encode.{superframeValues, planParts, superframeEndValues}
 use Rattle.s2xv2.specs.declared.option.OptionU32.the-variants as O32
 use Rattle.flat_in.specs.Input.{blockIn}
 use Rattle.flat.specs.declared.types.FlatSuperframe.{FlatSuperframe}
-use Rattle.writer.specs.Bytes.{blockBytes}
 use Rattle.s2xv2.proofs.Whole.{whole-plan}
 use Rattle.writer.proofs.Laws.{length-alone, alone-append, plan-same}
 use borrow.Author.Needs.{needs}
@@ -88,11 +88,14 @@ returns : tie.Need-returns
 returns c =
     let start = c .before .before .before .before .before .before .before .before .before .before .before .before .before .before .before .before in
     let f = start .args .f in
-    let e₁ = rw (c .before .before .before .before .before .before .before .before .before .before .before .before .before .before .block-bytes .ensures) at (c .before .before .before .before .before .before .before .before .before .before .copy .ensures) in
+    let block-bytes = c .before .before .before .before .before .before .before .before .before .before .before .before .before .before .block-bytes in
+    let e₁ = rw (block-bytes .ensures) at (c .before .before .before .before .before .before .before .before .before .before .copy .ensures) in
     let e₂ = c .before .before .before .before .before .before .put-plan .ensures in
     let e₃ = rw (c .before .before .before .before .before .before .before .before .before .before .before .before .before .last-byte .ensures) at (c .before .before .put .ensures) in
     let d = length-alone (plan f) (whole-plan (isOne (f .«beam_hopping_time_plan_selector»)) (O32.Some (f .«beamhopping_time_plan_id»))) in
-    rw (plan-same f (start .pre .1 .1)) (omega (arith, e₂ .0, sizes-append (plan f) (last f)), run _ _ _ _ _ e₁ (run _ _ _ _ _ (e₂ .1) e₃ (omega (arith, e₂ .0, d))) refl ∙ ap (λ (l : List ℕ). stored (now (start .args .buf)) (start .args .p) (blockBytes (blockIn f) ++ l)) (sym (alone-append (plan f) (last f))))
+    let e = run _ _ _ _ _ e₁ (run _ _ _ _ _ (e₂ .1) e₃ (omega (arith, e₂ .0, d))) refl in
+    let parts = ap (λ (l : List ℕ). stored (now (start .args .buf)) (start .args .p) (pack T.superframe (superframeValues (blockIn f)) ++ l)) (sym (alone-append (plan f) (last f))) in
+    rw (plan-same f (start .pre .1 .1)) (omega (arith, e₂ .0, sizes-append (plan f) (last f)), e ∙ parts)
 
 pub put-block-spec : {M : Type 1} → statement M
 put-block-spec =

@@ -33,7 +33,8 @@ same-length c = search needs
 returns : tie.Need-returns
 returns c =
     let e₁ = c .before .before .before .before .before .before .before .before .before .before .before .before .before .before .before .before .before .before .before .put-32 .ensures in
-    let e₂ = rw (c .before .before .before .before .before .before .before .before .before .before .before .before .before .before .before .before .before .before .before .before .before .flag-bytes .ensures) at (c .before .before .before .before .before .before .before .before .before .before .before .before .before .before .copy .ensures) in
+    let flag-bytes = c .before .before .before .before .before .before .before .before .before .before .before .before .before .before .before .before .before .before .before .before .before .flag-bytes in
+    let e₂ = rw (flag-bytes .ensures) at (c .before .before .before .before .before .before .before .before .before .before .before .before .before .before .copy .ensures) in
     let e₃ = c .before .before .before .before .before .before .before .before .before .before .put-24 .ensures in
     let e₄ = c .before .before .before .before .before .before .put-322 .ensures in
     let e₅ = c .before .before .put-323 .ensures in

@@ -32,7 +32,8 @@ returns : tie.Need-returns
 unfolding scramblingParts
 returns c =
     let start = c .before .before .before .before .before .before .before in
-    rw (c .before .before .before .before .before .if1 .taken) (refl, c .before .before .put-24 .ensures ∙ ap (λ (k : ℕ). stored (now (start .args .buf)) (start .args .p) (be 3 k)) (c .before .before .before .index-word .ensures))
+    let e = ap (λ (k : ℕ). stored (now (start .args .buf)) (start .args .p) (be 3 k)) (c .before .before .before .index-word .ensures) in
+    rw (c .before .before .before .before .before .if1 .taken) (refl, c .before .before .put-24 .ensures ∙ e)
 
 returns-2 : tie.Need-returns-2
 unfolding scramblingParts stored

@@ -11,7 +11,10 @@ use Rattle.writer.proofs.parts.put_superframe.Tie as tie
 
 put-block-requires : tie.Need-put-block-requires
 unfolding superframeParts
-put-block-requires c κs = (rw (eq-eqb _ _ (c .before .if1 .taken)) at (c .before .before .before .pre .0), (c .before .before .before .pre .1 .0, rw (eq-eqb _ _ (c .before .if1 .taken)) at (c .before .before .before .pre .1 .1)))
+put-block-requires c κs =
+    let start = c .before .before .before in
+    let e = eq-eqb _ _ (c .before .if1 .taken) in
+    (rw e at (start .pre .0), (start .pre .1 .0, rw e at (start .pre .1 .1)))
 
 same-length : tie.Need-same-length
 same-length c = search needs
