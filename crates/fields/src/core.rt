@@ -1,8 +1,10 @@
 // The lines of the body's length and of the core's fields.
-ghost use Rattle.lines.specs.Out.{_from_, Wrote};
+ghost use mathlib.Core.List.{_∷_};
+ghost use lib.ListN.{take, drop};
+ghost use Rattle.lines.specs.Out.{_from_, Wrote, joined};
 ghost use Rattle.s2xv2.specs.Table144c.{codeOf};
 ghost use Rattle.lines.specs.Line.{codes, lineOf};
-ghost use Rattle.fields.specs.Fields.{startOf, flagsOf, topOf, bondOf, carrierOf, coreOf};
+ghost use Rattle.fields.specs.Fields.{coreLines, topOf, coreOf};
 use lines::line::flag;
 use lines::line::line;
 use lines::line::line8;
@@ -20,7 +22,7 @@ fn mode(out: &mut [u8], at: usize, kind: S2Xv2Mode) -> usize
 
 // The body's length and the first fields, to multiple_input_stream_flag.
 fn start(out: &mut [u8], at: usize, length: u64, r: S2Xv2SatelliteDeliverySystem) -> usize
-    ensures { λ n. ⌜ Wrote (now (out .entry) from at) (startOf length r) (now (out .exit) from n) ⌝ }
+    ensures { λ n. ⌜ Wrote (now (out .entry) from at) (joined (lineOf (codes "s2xv2") length ∷ take 3 (coreLines r))) (now (out .exit) from n) ⌝ }
 {
     let kind = r.s2xv2_mode;
     let at = line(out, at, b"s2xv2", length);
@@ -36,7 +38,7 @@ fn start(out: &mut [u8], at: usize, length: u64, r: S2Xv2SatelliteDeliverySystem
 
 // roll_off to ncr_version.
 fn flags(out: &mut [u8], at: usize, r: S2Xv2SatelliteDeliverySystem) -> usize
-    ensures { λ n. ⌜ Wrote (now (out .entry) from at) (flagsOf r) (now (out .exit) from n) ⌝ }
+    ensures { λ n. ⌜ Wrote (now (out .entry) from at) (joined (take 4 (drop 3 (coreLines r)))) (now (out .exit) from n) ⌝ }
 {
     let at = line8(out, at, b"roll_off", r.roll_off);
     let at = line8(
@@ -61,7 +63,7 @@ fn top(out: &mut [u8], at: usize, selector: OptionBool, reserved: u8) -> usize
 
 // channel_bond to ts_gs_s2x_mode.
 fn bond(out: &mut [u8], at: usize, r: S2Xv2SatelliteDeliverySystem) -> usize
-    ensures { λ n. ⌜ Wrote (now (out .entry) from at) (bondOf r) (now (out .exit) from n) ⌝ }
+    ensures { λ n. ⌜ Wrote (now (out .entry) from at) (joined (take 4 (drop 7 (coreLines r)))) (now (out .exit) from n) ⌝ }
 {
     let selector = r.scrambling_sequence_selector;
     let at = line8(out, at, b"channel_bond", r.channel_bond);
@@ -72,7 +74,7 @@ fn bond(out: &mut [u8], at: usize, r: S2Xv2SatelliteDeliverySystem) -> usize
 
 // receiver_profiles to symbol_rate.
 fn carrier(out: &mut [u8], at: usize, r: S2Xv2SatelliteDeliverySystem) -> usize
-    ensures { λ n. ⌜ Wrote (now (out .entry) from at) (carrierOf r) (now (out .exit) from n) ⌝ }
+    ensures { λ n. ⌜ Wrote (now (out .entry) from at) (joined (drop 11 (coreLines r))) (now (out .exit) from n) ⌝ }
 {
     let at = line8(out, at, b"receiver_profiles", r.receiver_profiles);
     let at = line32(out, at, b"satellite_id", r.satellite_id);

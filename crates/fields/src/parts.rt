@@ -1,6 +1,7 @@
 // The lines of the parts that may be there between the core and the superframe block.
 ghost use Rattle.lines.specs.Out.{_from_, Wrote};
-ghost use Rattle.fields.specs.Fields.{line8 as Fields·line8, scramblingOf, idOf, secondOf, bondsOf, partsOf};
+ghost use Rattle.lines.specs.Line.{codes, lineOf};
+ghost use Rattle.fields.specs.Fields.{line8 as Fields·line8, scramblingOf, secondOf, bondsOf, partsOf};
 use lines::line::line8;
 use lines::line::line32;
 use s2xv2::option::OptionU8;
@@ -32,7 +33,7 @@ fn scrambling(out: &mut [u8], at: usize, index: OptionU32, reserved: u8) -> usiz
 
 // One id.
 fn id(out: &mut [u8], at: usize, v: u32) -> usize
-    ensures { λ n. ⌜ Wrote (now (out .entry) from at) (idOf v) (now (out .exit) from n) ⌝ }
+    ensures { λ n. ⌜ Wrote (now (out .entry) from at) (lineOf (codes "secondary_delivery_system_id") v) (now (out .exit) from n) ⌝ }
 {
     line32(out, at, b"secondary_delivery_system_id", v)
 }

@@ -1,6 +1,7 @@
 // The lines of the superframe block.
-ghost use Rattle.lines.specs.Out.{_from_, Wrote};
-ghost use Rattle.fields.specs.Fields.{blockStartOf, nibbleOf, line32 as Fields·line32, blockMiddleOf, blockEndOf, blockOf, superframeOf};
+ghost use lib.ListN.{take, drop};
+ghost use Rattle.lines.specs.Out.{_from_, Wrote, joined};
+ghost use Rattle.fields.specs.Fields.{line32 as Fields·line32, nibbleOf, blockLines, superframeOf};
 use lines::line::flag;
 use lines::line::line8;
 use lines::line::line32;
@@ -11,7 +12,7 @@ use s2xv2::superframe::S2Xv2Superframe;
 
 // SOSF_WH to what is reserved behind the selectors.
 fn block_start(out: &mut [u8], at: usize, f: S2Xv2Superframe) -> usize
-    ensures { λ n. ⌜ Wrote (now (out .entry) from at) (blockStartOf f) (now (out .exit) from n) ⌝ }
+    ensures { λ n. ⌜ Wrote (now (out .entry) from at) (joined (take 4 (blockLines f))) (now (out .exit) from n) ⌝ }
 {
     let at = line8(
         out,
@@ -56,7 +57,7 @@ fn plan(out: &mut [u8], at: usize, name: &[u8], id: OptionU32) -> usize
 
 // The reference index to the plan id.
 fn block_middle(out: &mut [u8], at: usize, f: S2Xv2Superframe) -> usize
-    ensures { λ n. ⌜ Wrote (now (out .entry) from at) (blockMiddleOf f) (now (out .exit) from n) ⌝ }
+    ensures { λ n. ⌜ Wrote (now (out .entry) from at) (joined (take 4 (drop 4 (blockLines f)))) (now (out .exit) from n) ⌝ }
 {
     let sffi = f.sffi;
     let id = f.beamhopping_time_plan_id;
@@ -78,7 +79,7 @@ fn block_middle(out: &mut [u8], at: usize, f: S2Xv2Superframe) -> usize
 
 // The last byte.
 fn block_end(out: &mut [u8], at: usize, f: S2Xv2Superframe) -> usize
-    ensures { λ n. ⌜ Wrote (now (out .entry) from at) (blockEndOf f) (now (out .exit) from n) ⌝ }
+    ensures { λ n. ⌜ Wrote (now (out .entry) from at) (joined (drop 8 (blockLines f))) (now (out .exit) from n) ⌝ }
 {
     let at = line8(
         out,
@@ -91,7 +92,7 @@ fn block_end(out: &mut [u8], at: usize, f: S2Xv2Superframe) -> usize
 
 // The lines of a block.
 fn block(out: &mut [u8], at: usize, f: S2Xv2Superframe) -> usize
-    ensures { λ n. ⌜ Wrote (now (out .entry) from at) (blockOf f) (now (out .exit) from n) ⌝ }
+    ensures { λ n. ⌜ Wrote (now (out .entry) from at) (joined (blockLines f)) (now (out .exit) from n) ⌝ }
 {
     let at = block_start(out, at, f);
     let at = block_middle(out, at, f);

@@ -1,7 +1,7 @@
 -- `fields::core::bond` meets its contract: one text after the other.
 -- Assumes nothing.
 use borrow.Author.Needs.{needs}
-use Rattle.fields.specs.Fields.{bondOf}
+use Rattle.fields.specs.Fields.{coreLines}
 use Rattle.lines.proofs.Laws.{then4}
 use Rattle.fields.proofs.core.bond.Statement.{statement}
 use Rattle.fields.proofs.core.bond.Tie as tie
@@ -31,9 +31,12 @@ same-length : tie.Need-same-length
 same-length c = search needs
 
 returns : tie.Need-returns
-unfolding bondOf
+unfolding coreLines
 returns c =
-    then4 (c .before .before .before .before .before .before .before .before .before .before .before .before .before .before .before .before .line8 .ensures) (c .before .before .before .before .before .before .before .before .before .before .before .line82 .ensures) (c .before .before .before .before .before .before .before .top .ensures) (c .before .before .line83 .ensures)
+    then4 (c .before .before .before .before .before .before .before .before .before .before .before .before .before .before .before .before .line8 .ensures)
+    (c .before .before .before .before .before .before .before .before .before .before .before .line82 .ensures)
+    (c .before .before .before .before .before .before .before .top .ensures)
+    (c .before .before .line83 .ensures)
 
 pub bond-spec : {M : Type 1} → statement M
 bond-spec =

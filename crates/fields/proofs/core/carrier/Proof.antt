@@ -1,7 +1,7 @@
 -- `fields::core::carrier` meets its contract: one text after the other.
 -- Assumes nothing.
 use borrow.Author.Needs.{needs}
-use Rattle.fields.specs.Fields.{carrierOf}
+use Rattle.fields.specs.Fields.{coreLines}
 use Rattle.lines.proofs.Laws.{then4}
 use Rattle.fields.proofs.core.carrier.Statement.{statement}
 use Rattle.fields.proofs.core.carrier.Tie as tie
@@ -34,9 +34,12 @@ same-length : tie.Need-same-length
 same-length c = search needs
 
 returns : tie.Need-returns
-unfolding carrierOf
+unfolding coreLines
 returns c =
-    then4 (c .before .before .before .before .before .before .before .before .before .before .before .before .before .before .before .before .before .line8 .ensures) (c .before .before .before .before .before .before .before .before .before .before .before .before .line32 .ensures) (c .before .before .before .before .before .before .before .line322 .ensures) (c .before .before .line323 .ensures)
+    then4 (c .before .before .before .before .before .before .before .before .before .before .before .before .before .before .before .before .before .line8 .ensures)
+    (c .before .before .before .before .before .before .before .before .before .before .before .before .line32 .ensures)
+    (c .before .before .before .before .before .before .before .line322 .ensures)
+    (c .before .before .line323 .ensures)
 
 pub carrier-spec : {M : Type 1} → statement M
 carrier-spec =

@@ -1,8 +1,8 @@
--- `fields::core::core` meets its contract: one text after the other.
+-- `fields::core::core` meets its contract: the lists of lines one after the other are the whole.
 -- Assumes nothing.
 use borrow.Author.Needs.{needs}
-use Rattle.fields.specs.Fields.{coreOf}
-use Rattle.lines.proofs.Laws.{then4}
+use Rattle.fields.specs.Fields.{coreLines, coreOf}
+use Rattle.fields.proofs.Laws.{and-then}
 use Rattle.fields.proofs.core.core.Statement.{statement}
 use Rattle.fields.proofs.core.core.Tie as tie
 
@@ -22,9 +22,12 @@ same-length : tie.Need-same-length
 same-length c = search needs
 
 returns : tie.Need-returns
-unfolding coreOf
+unfolding coreOf coreLines
 returns c =
-    then4 (c .before .before .before .before .before .before .before .before .before .before .before .before .before .before .start .ensures) (c .before .before .before .before .before .before .before .before .before .before .flags .ensures) (c .before .before .before .before .before .before .bond .ensures) (c .before .before .carrier .ensures)
+    and-then _ _ (c .before .before .before .before .before .before .before .before .before .before .before .before .before .before .start .ensures)
+    (and-then _ _ (c .before .before .before .before .before .before .before .before .before .before .flags .ensures)
+    (and-then _ _ (c .before .before .before .before .before .before .bond .ensures)
+    (c .before .before .carrier .ensures)))
 
 pub core-spec : {M : Type 1} → statement M
 core-spec =

@@ -1,7 +1,7 @@
 -- `fields::core::flags` meets its contract: one text after the other.
 -- Assumes nothing.
 use borrow.Author.Needs.{needs}
-use Rattle.fields.specs.Fields.{flagsOf}
+use Rattle.fields.specs.Fields.{coreLines}
 use Rattle.lines.proofs.Laws.{then4}
 use Rattle.fields.proofs.core.flags.Statement.{statement}
 use Rattle.fields.proofs.core.flags.Tie as tie
@@ -34,9 +34,12 @@ same-length : tie.Need-same-length
 same-length c = search needs
 
 returns : tie.Need-returns
-unfolding flagsOf
+unfolding coreLines
 returns c =
-    then4 (c .before .before .before .before .before .before .before .before .before .before .before .before .before .before .before .before .before .line8 .ensures) (c .before .before .before .before .before .before .before .before .before .before .before .before .line82 .ensures) (c .before .before .before .before .before .before .before .flag .ensures) (c .before .before .flag2 .ensures)
+    then4 (c .before .before .before .before .before .before .before .before .before .before .before .before .before .before .before .before .before .line8 .ensures)
+    (c .before .before .before .before .before .before .before .before .before .before .before .before .line82 .ensures)
+    (c .before .before .before .before .before .before .before .flag .ensures)
+    (c .before .before .flag2 .ensures)
 
 pub flags-spec : {M : Type 1} → statement M
 flags-spec =

@@ -1,7 +1,7 @@
 -- `fields::core::start` meets its contract: one text after the other.
 -- Assumes nothing.
 use borrow.Author.Needs.{needs}
-use Rattle.fields.specs.Fields.{startOf}
+use Rattle.fields.specs.Fields.{coreLines}
 use Rattle.lines.proofs.Laws.{then4}
 use Rattle.fields.proofs.core.start.Statement.{statement}
 use Rattle.fields.proofs.core.start.Tie as tie
@@ -31,9 +31,12 @@ same-length : tie.Need-same-length
 same-length c = search needs
 
 returns : tie.Need-returns
-unfolding startOf
+unfolding coreLines
 returns c =
-    then4 (c .before .before .before .before .before .before .before .before .before .before .before .before .before .before .before .before .line .ensures) (c .before .before .before .before .before .before .before .before .before .before .before .line32 .ensures) (c .before .before .before .before .before .before .before .mode .ensures) (c .before .before .flag .ensures)
+    then4 (c .before .before .before .before .before .before .before .before .before .before .before .before .before .before .before .before .line .ensures)
+    (c .before .before .before .before .before .before .before .before .before .before .before .line32 .ensures)
+    (c .before .before .before .before .before .before .before .mode .ensures)
+    (c .before .before .flag .ensures)
 
 pub start-spec : {M : Type 1} → statement M
 start-spec =

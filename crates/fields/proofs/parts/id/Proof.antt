@@ -1,7 +1,6 @@
--- `fields::parts::id` meets its contract: the line is the definition's.
+-- `fields::parts::id` meets its contract: the line is the call's.
 -- Assumes nothing.
 use borrow.Author.Needs.{needs}
-use Rattle.fields.specs.Fields.{idOf}
 use Rattle.fields.proofs.parts.id.Statement.{statement}
 use Rattle.fields.proofs.parts.id.Tie as tie
 
@@ -15,7 +14,6 @@ same-length : tie.Need-same-length
 same-length c = search needs
 
 returns : tie.Need-returns
-unfolding idOf
 returns c = c .before .before .line32 .ensures
 
 pub id-spec : {M : Type 1} → statement M

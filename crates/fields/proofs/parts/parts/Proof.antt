@@ -36,7 +36,10 @@ same-length c = search needs
 returns : tie.Need-returns
 unfolding partsOf
 returns c =
-    then4 (c .before .before .before .before .before .before .before .before .before .before .before .before .before .before .before .part .ensures) (c .before .before .before .before .before .before .before .before .before .before .before .scrambling .ensures) (c .before .before .before .before .before .before .part2 .ensures) (c .before .before .bonds .ensures)
+    then4 (c .before .before .before .before .before .before .before .before .before .before .before .before .before .before .before .part .ensures)
+    (c .before .before .before .before .before .before .before .before .before .before .before .scrambling .ensures)
+    (c .before .before .before .before .before .before .part2 .ensures)
+    (c .before .before .bonds .ensures)
 
 pub parts-spec : {M : Type 1} → statement M
 parts-spec =

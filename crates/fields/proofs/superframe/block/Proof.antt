@@ -1,8 +1,8 @@
--- `fields::superframe::block` meets its contract: one text after the other.
+-- `fields::superframe::block` meets its contract: the lists of lines one after the other are the whole.
 -- Assumes nothing.
 use borrow.Author.Needs.{needs}
-use Rattle.fields.specs.Fields.{blockOf}
-use Rattle.lines.proofs.Laws.{then3}
+use Rattle.fields.specs.Fields.{blockLines}
+use Rattle.fields.proofs.Laws.{and-then}
 use Rattle.fields.proofs.superframe.block.Statement.{statement}
 use Rattle.fields.proofs.superframe.block.Tie as tie
 
@@ -19,8 +19,11 @@ same-length : tie.Need-same-length
 same-length c = search needs
 
 returns : tie.Need-returns
-unfolding blockOf
-returns c = then3 (c .before .before .before .before .before .before .before .before .before .before .block-start .ensures) (c .before .before .before .before .before .before .block-middle .ensures) (c .before .before .block-end .ensures)
+unfolding blockLines
+returns c =
+    and-then _ _ (c .before .before .before .before .before .before .before .before .before .before .block-start .ensures)
+    (and-then _ _ (c .before .before .before .before .before .before .block-middle .ensures)
+    (c .before .before .block-end .ensures))
 
 pub block-spec : {M : Type 1} → statement M
 block-spec =

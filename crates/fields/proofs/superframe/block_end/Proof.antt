@@ -1,7 +1,7 @@
 -- `fields::superframe::block_end` meets its contract: one text after the other.
 -- Assumes nothing.
 use borrow.Author.Needs.{needs}
-use Rattle.fields.specs.Fields.{blockEndOf}
+use Rattle.fields.specs.Fields.{blockLines}
 use Rattle.lines.proofs.Laws.{then2}
 use Rattle.fields.proofs.superframe.block_end.Statement.{statement}
 use Rattle.fields.proofs.superframe.block_end.Tie as tie
@@ -22,7 +22,7 @@ same-length : tie.Need-same-length
 same-length c = search needs
 
 returns : tie.Need-returns
-unfolding blockEndOf
+unfolding blockLines
 returns c = then2 (c .before .before .before .before .before .before .before .line8 .ensures) (c .before .before .line82 .ensures)
 
 pub block-end-spec : {M : Type 1} → statement M

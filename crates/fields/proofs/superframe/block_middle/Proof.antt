@@ -1,7 +1,7 @@
 -- `fields::superframe::block_middle` meets its contract: one text after the other.
 -- Assumes nothing.
 use borrow.Author.Needs.{needs}
-use Rattle.fields.specs.Fields.{blockMiddleOf}
+use Rattle.fields.specs.Fields.{blockLines}
 use Rattle.lines.proofs.Laws.{then4}
 use Rattle.fields.proofs.superframe.block_middle.Statement.{statement}
 use Rattle.fields.proofs.superframe.block_middle.Tie as tie
@@ -31,9 +31,12 @@ same-length : tie.Need-same-length
 same-length c = search needs
 
 returns : tie.Need-returns
-unfolding blockMiddleOf
+unfolding blockLines
 returns c =
-    then4 (c .before .before .before .before .before .before .before .before .before .before .before .before .before .before .before .before .line32 .ensures) (c .before .before .before .before .before .before .before .before .before .before .before .before .nibble .ensures) (c .before .before .before .before .before .before .before .line322 .ensures) (c .before .before .plan .ensures)
+    then4 (c .before .before .before .before .before .before .before .before .before .before .before .before .before .before .before .before .line32 .ensures)
+    (c .before .before .before .before .before .before .before .before .before .before .before .before .nibble .ensures)
+    (c .before .before .before .before .before .before .before .line322 .ensures)
+    (c .before .before .plan .ensures)
 
 pub block-middle-spec : {M : Type 1} → statement M
 block-middle-spec =

@@ -1,7 +1,7 @@
 -- `fields::superframe::block_start` meets its contract: one text after the other.
 -- Assumes nothing.
 use borrow.Author.Needs.{needs}
-use Rattle.fields.specs.Fields.{blockStartOf}
+use Rattle.fields.specs.Fields.{blockLines}
 use Rattle.lines.proofs.Laws.{then4}
 use Rattle.fields.proofs.superframe.block_start.Statement.{statement}
 use Rattle.fields.proofs.superframe.block_start.Tie as tie
@@ -34,9 +34,12 @@ same-length : tie.Need-same-length
 same-length c = search needs
 
 returns : tie.Need-returns
-unfolding blockStartOf
+unfolding blockLines
 returns c =
-    then4 (c .before .before .before .before .before .before .before .before .before .before .before .before .before .before .before .before .before .line8 .ensures) (c .before .before .before .before .before .before .before .before .before .before .before .before .flag .ensures) (c .before .before .before .before .before .before .before .flag2 .ensures) (c .before .before .line82 .ensures)
+    then4 (c .before .before .before .before .before .before .before .before .before .before .before .before .before .before .before .before .before .line8 .ensures)
+    (c .before .before .before .before .before .before .before .before .before .before .before .before .flag .ensures)
+    (c .before .before .before .before .before .before .before .flag2 .ensures)
+    (c .before .before .line82 .ensures)
 
 pub block-start-spec : {M : Type 1} → statement M
 block-start-spec =
