@@ -28,6 +28,7 @@ unfoldable pub topOf : OptionBool → ℕ → List ℕ
 topOf (OB.Some b) reserved = lineOf (codes "scrambling_sequence_selector") (bit b)
 topOf OB.None reserved = lineOf (codes "reserved_zero_future_use_1") reserved
 
+-- the fields from delivery_system_id to symbol_rate
 unfoldable pub coreLines : S2Xv2SatelliteDeliverySystem → List (List ℕ)
 coreLines r =
     lineOf (codes "delivery_system_id") (r .«delivery_system_id»)
@@ -53,6 +54,7 @@ coreOf length r = joined (lineOf (codes "s2xv2") length ∷ coreLines r)
 
 -- ---- the parts that may be there
 
+-- the line of a number that may be absent: none then
 unfoldable pub line8 : List ℕ → OptionU8 → List ℕ
 line8 name (O8.Some v) = lineOf name v
 line8 name O8.None = []
@@ -81,6 +83,7 @@ bondsOf count reserved first second =
     ∷ secondOf count second
     ∷ []))
 
+-- the parts between the core and the superframe block
 unfoldable pub partsOf : S2Xv2SatelliteDeliverySystem → List ℕ
 partsOf r =
     joined
@@ -97,6 +100,7 @@ unfoldable pub nibbleOf : OptionU8 → ℕ → List ℕ
 nibbleOf (O8.Some v) reserved = lineOf (codes "sffi") v
 nibbleOf O8.None reserved = lineOf (codes "reserved_zero_future_use_4") reserved
 
+-- the fields from SOSF_WH to postamble_PLI
 unfoldable pub blockLines : S2Xv2Superframe → List (List ℕ)
 blockLines f =
     lineOf (codes "sosf_wh_sequence_number") (f .«sosf_wh_sequence_number»)
@@ -111,6 +115,7 @@ blockLines f =
     ∷ lineOf (codes "postamble_pli") (f .«postamble_pli»)
     ∷ []
 
+-- a block that is absent has no line
 unfoldable pub superframeOf : OptionSuperframe → List ℕ
 superframeOf (OS.Some f) = joined (blockLines f)
 superframeOf OS.None = []
