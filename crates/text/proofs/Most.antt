@@ -1,111 +1,16 @@
 -- How long the text of a body can get: `dump-most`, at most 1,067 bytes, so that a buffer of 2,048 holds it. The rest are its parts.
 -- Assumes nothing.
-use Prim.Native.Nat.{ℕ, _+_, _≤_}
+use Prim.Native.Nat.{ℕ, _≤_}
 use mathlib.Core.List.{List, [], _∷_}
 use native.Mathlib.Omega.{arith}
 use lib.ListN.{length}
 use lib.Dec.{eqb, ltb}
 use Rattle.s2xv2.specs.Read.{Need, needs, presentIn, bodySize, shortTold, readTold, numberOf, readOf, tailOf}
 use Rattle.s2xv2.specs.declared.record.S2Xv2SatelliteDeliverySystem.{S2Xv2SatelliteDeliverySystem}
-use Rattle.s2xv2.specs.declared.superframe.S2Xv2Superframe.{S2Xv2Superframe}
-use Rattle.s2xv2.specs.declared.superframe.OptionSuperframe.{OptionSuperframe}
-use Rattle.s2xv2.specs.declared.superframe.OptionSuperframe.the-variants as OS
-use Rattle.s2xv2.specs.declared.option.OptionBool.{OptionBool}
-use Rattle.s2xv2.specs.declared.option.OptionBool.the-variants as OB
-use Rattle.s2xv2.specs.declared.option.OptionU8.{OptionU8}
-use Rattle.s2xv2.specs.declared.option.OptionU8.the-variants as O8
-use Rattle.s2xv2.specs.declared.option.OptionU32.{OptionU32}
-use Rattle.s2xv2.specs.declared.option.OptionU32.the-variants as O32
 use Rattle.lines.specs.Line.{codes, refusedOf}
-use Rattle.lines.proofs.Length.{Most, two, three, four, line-most, either, name-most, one-byte, upto, empty, words-most}
-use Rattle.text.specs.Fields as F
+use Rattle.lines.proofs.Length.{Most, three, four, line-most, either, name-most, one-byte, upto, words-most}
+use Rattle.fields.proofs.Most.{core-most, parts-most, superframe-most}
 use Rattle.text.specs.Dump.{bodyOf, dumpOf}
-
--- ---- the core
-
-start-most : (n : ℕ) (r : S2Xv2SatelliteDeliverySystem) → Most (F.startOf n r) 107
-unfolding F.startOf
-start-most n r = four (line-most _ _) (line-most _ _) (line-most _ _) (line-most _ _)
-
-flags-most : (r : S2Xv2SatelliteDeliverySystem) → Most (F.flagsOf r) 106
-unfolding F.flagsOf
-flags-most r = four (line-most _ _) (line-most _ _) (line-most _ _) (line-most _ _)
-
-top-most : (o : OptionBool) (v : ℕ) → Most (F.topOf o v) 40
-unfolding F.topOf
-top-most (OB.Some b) v = line-most _ _
-top-most OB.None v = upto 40 (omega arith) (line-most (codes "reserved_zero_future_use_1") v)
-
-bond-most : (r : S2Xv2SatelliteDeliverySystem) → Most (F.bondOf r) 114
-unfolding F.bondOf
-bond-most r = four (line-most _ _) (line-most _ _) (top-most _ _) (line-most _ _)
-
-carrier-most : (r : S2Xv2SatelliteDeliverySystem) → Most (F.carrierOf r) 97
-unfolding F.carrierOf
-carrier-most r = four (line-most _ _) (line-most _ _) (line-most _ _) (line-most _ _)
-
-core-most : (n : ℕ) (r : S2Xv2SatelliteDeliverySystem) → Most (F.coreOf n r) 424
-unfolding F.coreOf
-core-most n r = four (start-most n r) (flags-most r) (bond-most r) (carrier-most r)
-
--- ---- the parts that may be there
-
-line8-most : (name : List ℕ) (o : OptionU8) → Most (F.line8 name o) (length name + 12)
-unfolding F.line8
-line8-most name (O8.Some v) = line-most name v
-line8-most name O8.None = empty (length name + 12)
-
-line32-most : (name : List ℕ) (o : OptionU32) → Most (F.line32 name o) (length name + 12)
-unfolding F.line32
-line32-most name (O32.Some v) = line-most name v
-line32-most name O32.None = empty (length name + 12)
-
-scrambling-most : (o : OptionU32) (v : ℕ) → Most (F.scramblingOf o v) 75
-unfolding F.scramblingOf
-scrambling-most (O32.Some i) v = two (line-most _ _) (line-most _ _)
-scrambling-most O32.None v = empty 75
-
-id-most : (v : ℕ) → Most (F.idOf v) 40
-unfolding F.idOf
-id-most v = line-most _ _
-
-second-most : (count v : ℕ) → Most (F.secondOf count v) 40
-unfolding F.secondOf
-second-most count v = either (eqb count 1) (empty 40) (id-most v)
-
-bonds-most : (count v a b : ℕ) → Most (F.bondsOf count v a b) 118
-unfolding F.bondsOf
-bonds-most count v a b = either (eqb count 0) (empty 118) (three (line-most _ _) (id-most a) (second-most count b))
-
-parts-most : (r : S2Xv2SatelliteDeliverySystem) → Most (F.partsOf r) 256
-unfolding F.partsOf
-parts-most r = four (line8-most _ _) (scrambling-most _ _) (line8-most _ _) (bonds-most _ _ _ _)
-
--- ---- the superframe block
-
-block-start-most : (f : S2Xv2Superframe) → Most (F.blockStartOf f) 141
-unfolding F.blockStartOf
-block-start-most f = four (line-most _ _) (line-most _ _) (line-most _ _) (line-most _ _)
-
-nibble-most : (o : OptionU8) (v : ℕ) → Most (F.nibbleOf o v) 38
-unfolding F.nibbleOf
-nibble-most (O8.Some s) v = upto 38 (omega arith) (line-most (codes "sffi") s)
-nibble-most O8.None v = line-most _ _
-
-block-middle-most : (f : S2Xv2Superframe) → Most (F.blockMiddleOf f) 148
-unfolding F.blockMiddleOf
-block-middle-most f = four (line-most _ _) (nibble-most _ _) (line-most _ _) (line32-most _ _)
-
-block-end-most : (f : S2Xv2Superframe) → Most (F.blockEndOf f) 73
-unfolding F.blockEndOf
-block-end-most f = two (line-most _ _) (line-most _ _)
-
-superframe-most : (o : OptionSuperframe) → Most (F.superframeOf o) 362
-unfolding F.superframeOf F.blockOf
-superframe-most (OS.Some f) = three (block-start-most f) (block-middle-most f) (block-end-most f)
-superframe-most OS.None = empty 362
-
--- ---- the whole
 
 body-most : (n : ℕ) (r : S2Xv2SatelliteDeliverySystem) (t : ℕ) → Most (bodyOf n r t) 1067
 unfolding bodyOf

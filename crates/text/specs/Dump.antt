@@ -10,7 +10,7 @@ use Rattle.s2xv2.specs.Read.{readTold, numberOf, readOf, tailOf}
 use Rattle.s2xv2.specs.declared.record.S2Xv2SatelliteDeliverySystem.{S2Xv2SatelliteDeliverySystem}
 use Rattle.lines.specs.Out.{joined}
 use Rattle.lines.specs.Line.{codes, lineOf, refusedOf}
-use Rattle.text.specs.Fields.{coreOf, partsOf, superframeOf}
+use Rattle.fields.specs.Fields.{coreOf, partsOf, superframeOf}
 
 unfoldable pub bodyOf : ℕ → S2Xv2SatelliteDeliverySystem → ℕ → List ℕ
 bodyOf length r tail =

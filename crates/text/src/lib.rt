@@ -7,9 +7,6 @@ use s2xv2::answer::Answer;
 use s2xv2::answer::Refusal;
 
 mod body;
-mod core;
-mod parts;
-mod superframe;
 
 // Puts the text of the body `sel` at the start of `out` and answers its length. Refuses a buffer of less than 2,048 bytes, which hold any
 // text, and leaves it as it was.

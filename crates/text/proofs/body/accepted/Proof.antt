@@ -27,7 +27,10 @@ same-length c = search needs
 returns : tie.Need-returns
 unfolding bodyOf
 returns c =
-    then4 (c .before .before .before .before .before .before .before .before .before .before .before .before .before .before .before .core .ensures) (c .before .before .before .before .before .before .before .before .before .before .before .parts .ensures) (c .before .before .before .before .before .before .before .superframe .ensures) (c .before .before .line .ensures)
+    then4 (c .before .before .before .before .before .before .before .before .before .before .before .before .before .before .before .core .ensures)
+    (c .before .before .before .before .before .before .before .before .before .before .before .parts .ensures)
+    (c .before .before .before .before .before .before .before .superframe .ensures)
+    (c .before .before .line .ensures)
 
 pub accepted-spec : {M : Type 1} → statement M
 accepted-spec =

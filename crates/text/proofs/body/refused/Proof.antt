@@ -23,7 +23,10 @@ same-length c = search needs
 
 returns : tie.Need-returns
 unfolding refusedOf
-returns c = then3 (c .before .before .before .before .before .before .before .before .before .before .copy .ensures) (c .before .before .before .before .before .before .numbers .ensures) (c .before .before .put .ensures)
+returns c =
+    then3 (c .before .before .before .before .before .before .before .before .before .before .copy .ensures)
+    (c .before .before .before .before .before .before .numbers .ensures)
+    (c .before .before .put .ensures)
 
 pub refused-spec : {M : Type 1} → statement M
 refused-spec =

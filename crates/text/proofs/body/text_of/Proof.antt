@@ -40,7 +40,9 @@ returns c =
     let r = parse .result in
     let e = parse .ensures in
     let t = c .before .before .before .before .reserved-tail .ensures in
-    same-text (ap (λ (l : List ℕ). bodyOf (length s) (r .body) (length l)) t ∙ accepted-text s r e _ (c .before .before .before .before .before .enum-told .given .1)) (c .before .before .accepted .ensures)
+    same-text
+    (ap (λ (l : List ℕ). bodyOf (length s) (r .body) (length l)) t ∙ accepted-text s r e _ (c .before .before .before .before .before .enum-told .given .1))
+    (c .before .before .accepted .ensures)
 
 same-length-2 : tie.Need-same-length-2
 same-length-2 c = search needs
