@@ -1,9 +1,8 @@
 // The bodies of the sets. Each call gives four times the body's length, plus how much longer than it the buffer is into which it is written back.
-use trial::draw::fill;
-use trial::draw::mode_of;
-use trial::draw::next;
-use trial::draw::put;
-use trial::draw::seed;
+use crate::draw::fill;
+use crate::draw::mode_of;
+use crate::draw::next;
+use crate::draw::seed;
 
 // What the core asks for, and whether the other bits are set.
 struct Shape {
@@ -24,6 +23,13 @@ fn low(v: u32) -> u8 {
 // A byte of a buffer, as far as the buffer reaches.
 fn get(bytes: &[u8], i: usize) -> u8 {
     if i < bytes.len() { bytes[i] } else { 0 }
+}
+
+// Stores a byte where the buffer has the place, and nothing behind its end.
+pub(crate) fn put(bytes: &mut [u8], i: usize, b: u8) {
+    if i < bytes.len() {
+        bytes[i] = b;
+    }
 }
 
 // Byte `k`: those after the core are all alike, so that the bond header and the superframe block find their bits wherever they stand.

@@ -1,13 +1,11 @@
 // Jobs on slots: for every slot size and several records, a job is stopped after every number of stores; what the slot then reads as and
 // holds, and what a new job begun there leaves, goes into a digest. What is printed is what a plain model of document 01 gives if all is
 // right.
+mod sample;
 mod stop;
 
-use trial::draw::fill;
-use trial::draw::put;
-use trial::draw::seed;
-use trial::set::digest_of;
-use trial::set::word;
+use sample::fill;
+use sample::store;
 
 // How long the body of a case is, in a slot of `n` bytes.
 fn count_of(kind: u32, n: usize) -> usize {
@@ -26,9 +24,9 @@ fn count_of(kind: u32, n: usize) -> usize {
 
 // The body of a case: one with no conditional part, or one that asks for all of them.
 fn make_body(case: u32, kind: u32, count: usize, body: &mut [u8]) {
-    fill(body, count, seed(case % 65_536 + 7));
-    put(body, 4, if kind == 5 { 95 } else { 7 });
-    put(body, 5, if kind == 5 { 247 } else { 243 });
+    fill(body, count, case % 65_536 + 7);
+    store(body, 4, if kind == 5 { 95 } else { 7 });
+    store(body, 5, if kind == 5 { 247 } else { 243 });
 }
 
 // Counts one answer.
@@ -40,14 +38,14 @@ fn count(counts: &mut [u32; 5], cell: usize) {
 
 // One number of stores.
 fn one_stop(
-    d: u64,
+    d: u32,
     start: &[u8],
     slot: &mut [u8],
     body: &[u8],
     tail: &[u8],
     made: usize,
     counts: &mut [u32; 5],
-) -> u64 {
+) -> u32 {
     let after = stop::put_stop(d, start, slot, body, made);
     count(counts, stop::reading_cell(slot));
     stop::put_again(after, slot, tail)
@@ -55,14 +53,14 @@ fn one_stop(
 
 // Every number of stores.
 fn stops(
-    begun: u64,
+    begun: u32,
     n: usize,
     start: &[u8],
     slot: &mut [u8],
     body: &[u8],
     tail: &[u8],
     counts: &mut [u32; 5],
-) -> u64 {
+) -> u32 {
     let mut d = begun;
     let mut made = 0;
     while made < n {
@@ -74,14 +72,14 @@ fn stops(
 
 // A case with its body and its slot: what begin answers, and then every number of stores.
 fn run_in(
-    d: u64,
+    d: u32,
     odd: bool,
     body: &[u8],
     tail: &[u8],
     start: &mut [u8],
     slot: &mut [u8],
     counts: &mut [u32; 5],
-) -> u64 {
+) -> u32 {
     stop::prepare(start, odd);
     count(counts, stop::begin_cell(start, body));
     let begun = stop::begin_told(d, start, body);
@@ -93,7 +91,7 @@ fn run_in(
 }
 
 // A case: its slot has `n` bytes.
-fn run(d: u64, case: u32, tail: &[u8], counts: &mut [u32; 5]) -> u64 {
+fn run(d: u32, case: u32, tail: &[u8], counts: &mut [u32; 5]) -> u32 {
     let kind = case / 237;
     let n = (21 + case % 237) as usize;
     let b = count_of(kind, n);
@@ -116,8 +114,8 @@ fn run(d: u64, case: u32, tail: &[u8], counts: &mut [u32; 5]) -> u64 {
 }
 
 // All cases.
-fn run_all(tail: &[u8], counts: &mut [u32; 5]) -> u64 {
-    let mut d: u64 = 0;
+fn run_all(tail: &[u8], counts: &mut [u32; 5]) -> u32 {
+    let mut d: u32 = 0;
     let mut case = 0;
     while case < 1422 {
         d = run(d, case, tail, counts);
@@ -126,17 +124,23 @@ fn run_all(tail: &[u8], counts: &mut [u32; 5]) -> u64 {
     d
 }
 
+// Prints a text and a number.
+fn word(text: &[u8], n: u32) {
+    io::write_all(1, text);
+    io::print_decimal(1, n as u64);
+}
+
 // Runs all cases, and prints the counts and the digest.
 fn main() {
     let mut tail = [0u8; 257];
     let mut counts = [0u32; 5];
-    fill(&mut tail, 257, seed(1));
+    fill(&mut tail, 257, 1);
     let d = run_all(&tail, &mut counts);
     word(b"jobs 1422\n", counts[0]);
     word(b" ", counts[1]);
     word(b" ", counts[2]);
     word(b" ", counts[3]);
     word(b" ", counts[4]);
-    word(b"\ndigest ", digest_of(d));
+    word(b"\ndigest ", d);
     io::write_all(1, b"\n");
 }

@@ -1,30 +1,17 @@
 // A job on a slot, stopped after a number of stores.
+use crate::sample::copy;
+use crate::sample::put;
+use crate::sample::put_bytes;
+use crate::sample::put_size;
 use job::job::Job;
 use job::job::StepAnswer;
 use s2xv2::answer::Answer;
 use s2xv2::answer::Refusal;
 use s2xv2::record::S2Xv2SatelliteDeliverySystem;
 use slot::answer::SlotAnswer;
-use trial::digest::put;
-use trial::digest::put_bytes;
-use trial::draw;
-
-// Copies as much as both buffers have.
-fn copy(from: &[u8], to: &mut [u8]) {
-    let mut i = 0;
-    while i < from.len() {
-        draw::put(to, i, from[i]);
-        i += 1;
-    }
-}
-
-// The digest with one size more.
-fn put_size(d: u64, n: usize) -> u64 {
-    put(d, (n % 4_294_967_296) as u32)
-}
 
 // The refusals that a slot or a begin gives here; any other is a number that document 01 does not have.
-fn put_refusal(d: u64, why: Refusal) -> u64 {
+fn put_refusal(d: u32, why: Refusal) -> u32 {
     match why {
         Refusal::Slot => put(d, 6),
         Refusal::NoFit { size } => put_size(put(d, 7), size),
@@ -33,7 +20,7 @@ fn put_refusal(d: u64, why: Refusal) -> u64 {
 }
 
 // What begin answers.
-pub(crate) fn begin_told(d: u64, slot: &[u8], body: &[u8]) -> u64 {
+pub(crate) fn begin_told(d: u32, slot: &[u8], body: &[u8]) -> u32 {
     let answer = begun(slot, body);
     match answer {
         Answer::Accepted(n) => put_size(put(d, 0), n),
@@ -82,7 +69,7 @@ fn bit(b: bool) -> u32 {
 }
 
 // A step of so many stores.
-fn put_step(d: u64, slot: &mut [u8], body: &[u8], allowance: usize) -> u64 {
+fn put_step(d: u32, slot: &mut [u8], body: &[u8], allowance: usize) -> u32 {
     let job = job_for(slot, body);
     let s = job.step(slot, allowance);
     let answer = s.answer;
@@ -93,7 +80,7 @@ fn put_step(d: u64, slot: &mut [u8], body: &[u8], allowance: usize) -> u64 {
 }
 
 // What a slot reads as: 0 with the tail's place and length, 9 for an empty one, or a refusal.
-fn put_reading(d: u64, slot: &[u8]) -> u64 {
+fn put_reading(d: u32, slot: &[u8]) -> u32 {
     let r = slot::read::read(slot);
     let answer = r.answer;
     match answer {
@@ -133,14 +120,14 @@ pub(crate) fn prepare(slot: &mut [u8], stored: bool) {
 }
 
 // Stops a job after a number of stores, and puts what is then in the slot.
-pub(crate) fn put_stop(d: u64, start: &[u8], slot: &mut [u8], body: &[u8], made: usize) -> u64 {
+pub(crate) fn put_stop(d: u32, start: &[u8], slot: &mut [u8], body: &[u8], made: usize) -> u32 {
     copy(start, slot);
     let after = put_step(d, slot, body, made);
     put_bytes(put_reading(after, slot), slot)
 }
 
 // A new job that is begun there.
-pub(crate) fn put_again(d: u64, slot: &mut [u8], tail: &[u8]) -> u64 {
+pub(crate) fn put_again(d: u32, slot: &mut [u8], tail: &[u8]) -> u32 {
     whole_job(slot, tail);
     put_bytes(d, slot)
 }

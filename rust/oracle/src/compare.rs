@@ -1,12 +1,11 @@
-//! Finds the first case in which the program `replay` or `replay_records` says something else than the crate, and shows both sides number by
-//! number.
+//! Finds the first case in which the program `replay` says something else than the crate, and shows both sides number by number.
 use crate::generator::tail;
-use crate::sets::{run, OF_BODIES, OF_RECORDS, SETS};
+use crate::sets::{run, SETS};
 use crate::stream::Stream;
 use std::io::Write;
 use std::process::{Command, Stdio};
 
-/// What the program prints when it is asked by ten bytes on its standard input: 1 for the digest after each case of a set, 2 for every
+/// What `replay` prints when it is asked by ten bytes on its standard input: 1 for the digest after each case of a set, 2 for every
 /// number that goes into it; the set; the first case and the one after the last.
 fn ask(program: &str, what: u8, set: usize, from: u32, to: u32) -> Vec<u32> {
     let mut child = Command::new(program)
@@ -43,16 +42,14 @@ fn first_case(program: &str, set: usize) -> Option<u32> {
     })
 }
 
-/// True where no set of the program has a difference.
+/// True where no set has a difference.
 pub fn compare(program: &str) -> bool {
-    let sets = if program.ends_with("records") { OF_RECORDS } else { OF_BODIES };
-    for set in sets {
-        let name = SETS[set].name;
+    for (set, described) in SETS.iter().enumerate() {
         let Some(case) = first_case(program, set) else {
-            println!("{name}: no case differs");
+            println!("{}: no case differs", described.name);
             continue;
         };
-        println!("{name}: case {case} differs");
+        println!("{}: case {case} differs", described.name);
         let theirs = ask(program, 2, set, case, case + 1);
         let ours = rows(set, case);
         for k in 0..ours.len().max(theirs.len()) {
@@ -61,7 +58,7 @@ pub fn compare(program: &str) -> bool {
                 .map_or(("", "-".into()), |(name, value)| (name.as_str(), value.to_string()));
             let other = theirs.get(k).map_or("-".into(), u32::to_string);
             let mark = if value == other { "" } else { "   <-- differs" };
-            println!("  {name}: the crate {value}, the program {other}{mark}");
+            println!("  {name}: the crate {value}, replay {other}{mark}");
         }
         return false;
     }

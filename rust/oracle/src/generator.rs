@@ -1,5 +1,4 @@
-//! The cases of each set, from their numbers alone. The Rattle programs `replay` and `replay_records` have the same rules; nothing is shared
-//! but the rules.
+//! The cases of each set, from their numbers alone. The Rattle program `replay` has the same rules; nothing is shared but the rules.
 use crate::values::*;
 
 /// One step of the generator: a congruence modulo 2^32, of which only the high bits are used.

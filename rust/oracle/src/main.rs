@@ -1,16 +1,14 @@
 //! The crate's own code beside the Rattle. See docs/DIFFERENCES.md for what stands in for what is missing.
 //!
 //!     oracle record                writes what the program `replay` has to print
-//!     oracle record-records        writes what the program `replay_records` has to print
 //!     oracle record-jobs           writes what the program `replay_jobs` has to print, by a plain model of the slot and its job
 //!     oracle codes                 tells whether RollOff, Polarization and S2Xv2Mode give their codes back
 //!     oracle edges                 shows what the crate itself answers to the cases with a name that document 01 refuses otherwise
 //!     oracle show SET CASE         shows every number of a case, by name
-//!     oracle compare PROGRAM       finds the first case in which PROGRAM, a built `replay` or `replay_records`, differs
+//!     oracle compare PROGRAM       finds the first case in which PROGRAM, a built `replay`, differs
 use oracle::answer::{Answer, CELLS};
 use oracle::stream::Stream;
 use oracle::{compare, crate_side, generator, jobs, named, sets};
-use std::ops::Range;
 use std::process::ExitCode;
 
 fn words(numbers: &[u32]) -> String {
@@ -27,30 +25,22 @@ fn print_counts(counts: &[u32; CELLS]) {
     }
 }
 
-fn record_sets(of: Range<usize>, tail: &[u8]) {
-    for set in of {
-        println!("{} {}", sets::SETS[set].name, sets::SETS[set].cases);
-        let (counts, digest) = sets::run_all(set, tail);
-        print_counts(&counts);
-        println!("digest {digest}");
-    }
-}
-
 fn record() {
+    let tail = generator::tail();
     for (k, body) in named::bodies().iter().enumerate() {
         let mut s = Stream::default();
         print_named("body", k + 1, sets::run_body(body, &mut s), s.digest);
     }
-    record_sets(sets::OF_BODIES, &generator::tail());
-}
-
-fn record_records() {
-    let tail = generator::tail();
     for (k, case) in named::records().iter().enumerate() {
         let mut s = Stream::default();
         print_named("record", k + 1, sets::run_record(case, &tail, &mut s), s.digest);
     }
-    record_sets(sets::OF_RECORDS, &tail);
+    for (k, set) in sets::SETS.iter().enumerate() {
+        println!("{} {}", set.name, set.cases);
+        let (counts, digest) = sets::run_all(k, &tail);
+        print_counts(&counts);
+        println!("digest {digest}");
+    }
 }
 
 fn record_jobs() {
@@ -101,10 +91,6 @@ fn main() -> ExitCode {
             record();
             true
         }
-        ["record-records"] => {
-            record_records();
-            true
-        }
         ["record-jobs"] => {
             record_jobs();
             true
@@ -120,7 +106,7 @@ fn main() -> ExitCode {
         }
         ["compare", program] => compare::compare(program),
         _ => {
-            eprintln!("oracle record | record-records | record-jobs | codes | edges | show SET CASE | compare PROGRAM");
+            eprintln!("oracle record | record-jobs | codes | edges | show SET CASE | compare PROGRAM");
             false
         }
     };

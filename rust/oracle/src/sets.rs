@@ -4,7 +4,6 @@ use crate::crate_side::{length, read, write};
 use crate::generator::*;
 use crate::stream::Stream;
 use crate::values::NAMES;
-use std::ops::Range;
 
 /// What a buffer holds before it is written.
 pub const BEFORE: u8 = 165;
@@ -27,10 +26,6 @@ pub const SETS: [Set; 5] = [
         cases: RECORDS,
     },
 ];
-
-/// The sets of the program `replay`, and those of `replay_records`.
-pub const OF_BODIES: Range<usize> = 0..3;
-pub const OF_RECORDS: Range<usize> = 3..5;
 
 /// One case of a set, into the stream. What is counted is the answer of the read, or of the write in the sets of records.
 pub fn run(set: usize, case: u32, tail: &[u8], s: &mut Stream) -> Answer {
