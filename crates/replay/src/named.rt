@@ -103,13 +103,19 @@ fn zero(body: &mut [u8]) {
     }
 }
 
+// Row `k` of the bodies; there are 22.
+fn body_row(k: usize) -> [u16; 9] {
+    if k < 22 {
+        BODIES[k]
+    } else {
+        [0, 0, 0, 0, 0, 0, 0, 0, 0]
+    }
+}
+
 // Body `k` of the list.
 pub(crate) fn body(k: usize, body: &mut [u8]) -> usize {
     zero(body);
-    if 22 <= k {
-        return 0;
-    }
-    let row = BODIES[k];
+    let row = body_row(k);
     store(body, row[1], row[2]);
     store(body, row[3], row[4]);
     store(body, row[5], row[6]);
@@ -125,12 +131,18 @@ fn set(v: &mut [u32; 45], field: u32, value: u32) {
     }
 }
 
+// Row `k` of the records; there are 43.
+fn record_row(k: usize) -> [u32; 10] {
+    if k < 43 {
+        RECORDS[k]
+    } else {
+        [0, 0, 0, 0, 42, 0, 42, 0, 42, 0]
+    }
+}
+
 // Record `k` of the list.
 pub(crate) fn record(k: usize) -> [u32; 45] {
-    if 43 <= k {
-        return plain(0, 0);
-    }
-    let row = RECORDS[k];
+    let row = record_row(k);
     let mut v = plain(row[0], row[1]);
     set(&mut v, row[4], row[5]);
     set(&mut v, row[6], row[7]);
