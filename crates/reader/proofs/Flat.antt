@@ -11,9 +11,9 @@ use lib.Dec.{ltb}
 use Rattle.wire.specs.Flags.{bit, isOne, when, and, not}
 use Rattle.s2xv2.specs.Default.{defaultRecord}
 use Rattle.s2xv2.specs.Answer.{saturated, told}
-use Rattle.s2xv2.specs.Read.{Need, needs, presentIn, bodySize, shortTold, readTold, superframeAt, hasSecond, hasPlan, recordAt, recordIn}
+use Rattle.s2xv2.specs.Read.{Need, needs, presentIn, bodySize, shortTold, readTold, superframeAt, recordAt, recordOf, recordIn}
 use Rattle.s2xv2.specs.declared.superframe.OptionSuperframe.the-variants as OS
-use Rattle.layout.specs.Layout.{asked}
+use Rattle.layout.specs.Layout.{asked, endsNow}
 use Rattle.layout.specs.declared.present.Present.{Present}
 use Rattle.layout.specs.declared.ends.Ends.{Ends}
 use Rattle.s2xv2.proofs.Back.{bit-of}
@@ -41,10 +41,9 @@ pub flat-core : (s : List ℕ) → flatCoreAt s ≡ recordOut (coreOf (recordIn 
 unfolding flatCoreAt recordAt defaultRecord
 flat-core s = simp (code-mode, is-bool, is-selected, bit-mod, top-clear)
 
-pub flat-record : (s : List ℕ) (k : Present) (e : Ends) → e .second ≡ hasSecond s (e .timeslice) → e .plan ≡ hasPlan s (e .bond)
-    → flatRecordAt (recordOut (coreOf (recordIn s))) s k e ≡ recordOut (recordAt s (asked k) (e .stream) (e .scrambling) (e .timeslice) (e .bond))
+pub flat-record : (s : List ℕ) (k : Present) (e : Ends) → e ≡ endsNow s k → flatRecordAt (recordOut (coreOf (recordIn s))) s k e ≡ recordOut (recordOf s (asked k))
 unfolding flatRecordAt recordAt
-flat-record s k e d p = simp (d, p, is-8, is-32, is-superframe)
+flat-record s k e d = simp (d, is-8, is-32, is-superframe)
 
 -- ---- the answer
 

@@ -1,17 +1,17 @@
--- A body that reaches the last end has reached them all; and a part from q to the end is what is left behind q.
+-- A body that reaches the last end has `Reached` them all (`reached`); and a part from q to the end is what is left behind q (`rest`).
 -- Assumes nothing.
-use mathlib.Core.Path.{_≡_, refl}
+use mathlib.Core.Path.{_≡_}
 use mathlib.Core.List.{List}
 use mathlib.Core.Bool.{Bool, true, false}
-use Prim.Native.Nat.{ℕ, _-_, _≤_}
+use Prim.Native.Nat.{ℕ, _+_, _-_, _≤_, _<_}
 use native.Mathlib.Nat.{le-refl}
 use native.Mathlib.Omega.{arith}
 use lib.ListN.{length, take, drop, length-drop}
 use lib.Seq.{take-all}
-use Rattle.s2xv2.specs.Read.{only, timesliceEnd, hasSecond, bondSize, superframeEnd}
+use Rattle.s2xv2.specs.Read.{only, timesliceEnd, hasSecond, bondSize, superframeSize, superframeEnd}
 use Rattle.layout.specs.Layout.{asked, endsNow}
 use Rattle.layout.specs.declared.present.Present.{Present}
-use Rattle.reader.specs.Parts.{Reached}
+use Rattle.layout.specs.declared.ends.Ends.{Ends}
 
 one : (b : Bool) (n : ℕ) → only b n ≤ n
 one true n = le-refl n
@@ -22,23 +22,34 @@ bond true true = omega arith
 bond true false = omega arith
 bond false d = omega arith
 
-pub reached : (s : List ℕ) (k : Present) → superframeEnd s (asked k) ≤ length s → Reached s k (endsNow s k)
-reached s k h =
-    let a = one (k .stream) 1 in
-    let b = one (k .scrambling) 3 in
-    let c = one (k .timeslice) 1 in
-    let d = bond (k .bond) (hasSecond s (timesliceEnd (asked k))) in
-    record {
-      core = omega arith;
-      stream = omega arith;
-      scrambling = omega arith;
-      timeslice = omega arith;
-      bond = omega arith;
-      superframe = h;
-      small = omega arith;
-      second = refl;
-      plan = refl;
-    }
+-- the body reaches the end of each part, and the last one starts below 100
+pub record Reached (s : List ℕ) (k : Present) (e : Ends) : Type 0 where
+  pub core : 18 ≤ length s
+  pub stream : 18 + only (k .stream) 1 ≤ length s
+  pub scrambling : e .stream + only (k .scrambling) 3 ≤ length s
+  pub timeslice : e .scrambling + only (k .timeslice) 1 ≤ length s
+  pub bond : e .timeslice + only (k .bond) (bondSize (e .second)) ≤ length s
+  pub superframe : e .bond + only (k .superframe) (superframeSize (e .plan)) ≤ length s
+  pub small : e .bond < 100
+
+pub reached : (s : List ℕ) (k : Present) (e : Ends) → (e ≡ endsNow s k) × (e .superframe ≤ length s) → Reached s k e
+reached s k e (same, last) = rw same (go (rw same at last))
+  where
+    go : superframeEnd s (asked k) ≤ length s → Reached s k (endsNow s k)
+    go h =
+        let a = one (k .stream) 1 in
+        let b = one (k .scrambling) 3 in
+        let c = one (k .timeslice) 1 in
+        let d = bond (k .bond) (hasSecond s (timesliceEnd (asked k))) in
+        record {
+          core = omega arith;
+          stream = omega arith;
+          scrambling = omega arith;
+          timeslice = omega arith;
+          bond = omega arith;
+          superframe = h;
+          small = omega arith;
+        }
 
 pub rest : (q : ℕ) (s : List ℕ) → take (length s - q) (drop q s) ≡ drop q s
 rest q s = take-all (length s - q) (drop q s) (rw length-drop (le-refl (length s - q)))

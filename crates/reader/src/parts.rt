@@ -5,8 +5,7 @@ ghost use Prim.Native.Nat.{_+_, _≤_, _<_};
 ghost use lib.ListN.{length};
 ghost use Rattle.wire.specs.Flags.{when};
 ghost use Rattle.s2xv2.specs.Options.{orZero8, orZero32, some8If};
-ghost use Rattle.s2xv2.specs.Read.{only, bondSize, superframeSize, byteAt, planAt, superframeAt};
-ghost use Rattle.reader.specs.Parts.{scramblingAt, bondsAt};
+ghost use Rattle.s2xv2.specs.Read.{only, bondSize, superframeSize, byteAt, reserved6At, indexAt, reserved7At, countIf, firstIdAt, secondIdAt, planAt, superframeAt};
 ghost use Rattle.flat.specs.Output.{superframeOut};
 ghost use Rattle.s2xv2.specs.declared.superframe.OptionSuperframe.the-variants as OS;
 use crate::bytes::be32;
@@ -44,7 +43,7 @@ pub(crate) fn byte_at(s: &[u8], p: usize, there: bool) -> u8
 // The scrambling part: six bits that are reserved, and the index.
 pub(crate) fn scrambling_at(s: &[u8], p: usize, there: bool) -> Scrambling
     requires { ⌜ p + only there 3 ≤ length (now s) ⌝ }
-    ensures { λ r. ⌜ r ≡ scramblingAt (now (s .entry)) p there ⌝ }
+    ensures { λ r. ⌜ r ≡ record { reserved = reserved6At (now (s .entry)) p there; index = orZero32 (indexAt (now (s .entry)) p there) } ⌝ }
 {
     if there {
         Scrambling {
@@ -62,7 +61,7 @@ pub(crate) fn scrambling_at(s: &[u8], p: usize, there: bool) -> Scrambling
 // The bonds: their header, and one id or two.
 pub(crate) fn bonds_at(s: &[u8], p: usize, there: bool, second: bool) -> Bonds
     requires { ⌜ p + only there (bondSize second) ≤ length (now s) ⌝ }
-    ensures { λ r. ⌜ r ≡ bondsAt (now (s .entry)) p there second ⌝ }
+    ensures { λ r. ⌜ r ≡ record { reserved = reserved7At (now (s .entry)) p there; count = countIf there second; first = firstIdAt (now (s .entry)) p there; second = secondIdAt (now (s .entry)) p there second } ⌝ }
 {
     if there {
         if second {

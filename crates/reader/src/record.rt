@@ -3,11 +3,10 @@ ghost use mathlib.Core.Path.{_≡_};
 ghost use Prim.Native.Nat.{_≤_};
 ghost use lib.ListN.{length};
 ghost use Rattle.s2xv2.specs.Options.{someSuperframeIf};
-ghost use Rattle.s2xv2.specs.Read.{superframeAt, recordAt, recordIn};
+ghost use Rattle.s2xv2.specs.Read.{superframeAt, recordOf, recordIn};
 ghost use Rattle.flat.specs.Core.{coreOf};
 ghost use Rattle.flat.specs.Output.{superframeOut, recordOut};
-ghost use Rattle.layout.specs.Layout.{asked};
-ghost use Rattle.reader.specs.Parts.{Reached};
+ghost use Rattle.layout.specs.Layout.{asked, endsNow};
 use crate::bytes::be24;
 use crate::bytes::be32;
 use crate::bytes::byte;
@@ -60,9 +59,9 @@ fn core_at(s: &[u8]) -> FlatRecord
 
 // The record with its superframe block at hand: its core, and the parts that are there.
 fn record_of(s: &[u8], k: Present, e: Ends, superframe: FlatSuperframe) -> FlatRecord
-    requires { ⌜ Reached (now s) k e ⌝ }
+    requires { ⌜ (e ≡ endsNow (now s) k) × (e .superframe ≤ length (now s)) ⌝ }
     requires { ⌜ superframe ≡ superframeOut (someSuperframeIf (k .superframe) (superframeAt (now s) (e .bond) (e .plan))) ⌝ }
-    ensures { λ r. ⌜ r ≡ recordOut (recordAt (now (s .entry)) (asked k) (e .stream) (e .scrambling) (e .timeslice) (e .bond)) ⌝ }
+    ensures { λ r. ⌜ r ≡ recordOut (recordOf (now (s .entry)) (asked k)) ⌝ }
 {
     let scrambling = scrambling_at(s, e.stream, k.scrambling);
     let bonds = bonds_at(s, e.timeslice, k.bond, e.second);
@@ -85,8 +84,8 @@ fn record_of(s: &[u8], k: Present, e: Ends, superframe: FlatSuperframe) -> FlatR
 
 // The record of a body that reaches the ends of its parts, as plain numbers.
 pub(crate) fn record_at(s: &[u8], k: Present, e: Ends) -> FlatRecord
-    requires { ⌜ Reached (now s) k e ⌝ }
-    ensures { λ r. ⌜ r ≡ recordOut (recordAt (now (s .entry)) (asked k) (e .stream) (e .scrambling) (e .timeslice) (e .bond)) ⌝ }
+    requires { ⌜ (e ≡ endsNow (now s) k) × (e .superframe ≤ length (now s)) ⌝ }
+    ensures { λ r. ⌜ r ≡ recordOut (recordOf (now (s .entry)) (asked k)) ⌝ }
 {
     if k.superframe {
         return record_of(s, k, e, block_at(s, e.bond, e.plan));

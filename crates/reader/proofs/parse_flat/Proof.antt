@@ -9,7 +9,6 @@ use Rattle.s2xv2.specs.Read.{presentIn, bodySize, needs as parts, shortTold, re
 use Rattle.s2xv2.specs.declared.answer.Refusal.the-variants.{Short, Long}
 use Rattle.s2xv2.proofs.Reach.{told-long, told-core, told-within, reads-accepted, reads-refused, reads-short}
 use Rattle.reader.specs.Seen.{flatSeen}
-use Rattle.reader.proofs.Laws.{reached}
 use borrow.Author.Needs.{needs}
 use Rattle.reader.proofs.parse_flat.Statement.{statement}
 use Rattle.reader.proofs.parse_flat.Tie as tie
@@ -60,10 +59,7 @@ answer-of-requires : tie.Need-answer-of-requires
 answer-of-requires c κs = search needs
 
 record-at-requires : tie.Need-record-at-requires
-record-at-requires c κs =
-    let s = now (c .before .before .before .before .before .before .before .args .sel) in
-    rw (c .before .before .ends-of .ensures, c .before .before .before .present-in .ensures)
-    (reached s _ (rw (c .before .before .ends-of .ensures, c .before .before .before .present-in .ensures) at (c .before .if3 .left)))
+record-at-requires c κs = (c .before .before .ends-of .ensures, c .before .if3 .left)
 
 returns-4 : tie.Need-returns-4
 unfolding bodySize

@@ -1,11 +1,16 @@
 -- `reader::record::record_at` meets its contract: the test says which block it is.
 -- Assumes nothing.
+use denote.Ref.{now}
+use Rattle.reader.proofs.Laws.{reached}
 use borrow.Author.Needs.{needs}
 use Rattle.reader.proofs.record.record_at.Statement.{statement}
 use Rattle.reader.proofs.record.record_at.Tie as tie
 
 block-at-requires : tie.Need-block-at-requires
-block-at-requires c κs = (c .before .before .pre .small, rw (c .if1 .taken) at (c .before .before .pre .superframe))
+block-at-requires c κs =
+    let start = c .before .before in
+    let h = reached (now (start .args .s)) (start .args .k) (start .args .e) (start .pre) in
+    (h .small, rw (c .if1 .taken) at (h .superframe))
 
 record-of-requires : tie.Need-record-of-requires
 record-of-requires c κs = (c .before .before .before .pre, simp (c .before .if1 .taken, c .block-at .ensures))
