@@ -5,7 +5,8 @@ use mathlib.Core.Path.{_≡_, refl}
 use mathlib.Core.Bool.{Bool, true, false}
 use Prim.Native.Nat.{ℕ}
 use lib.Dec.{ltb}
-use Rattle.wire.specs.Flags.{bit, isOne, and}
+use Rattle.wire.specs.Flags.{bit}
+use Rattle.wire.proofs.Flags.{is-bit}
 use Rattle.s2xv2.specs.Table144c.{modeOf, codeOf}
 use Rattle.s2xv2.specs.Options.{isSomeBool, isSome8, isSome32, isSomeSuperframe, selected, orZero8, orZero32, someBoolIf, some8If, some32If, someSuperframeIf}
 use Rattle.s2xv2.specs.declared.mode.S2Xv2Mode.{S2Xv2Mode}
@@ -24,10 +25,6 @@ use Rattle.flat.specs.Output.{isReserved, superframeOut, recordOut}
 use Rattle.flat_in.specs.Input.{modeIn, blockIn, recordIn, flags, blockFlags, named, valid}
 
 -- ---- out and in again, field by field
-pub bit-back : (b : Bool) → isOne (bit b) ≡ b
-bit-back true = refl
-bit-back false = refl
-
 mode-back : (m : S2Xv2Mode) → modeIn (isReserved m) (codeOf m) ≡ m
 unfolding modeOf
 mode-back M.Reserved0 = refl
@@ -51,23 +48,19 @@ u32-back (O32.Some v) = refl
 u32-back O32.None = refl
 
 block-back : (f : S2Xv2Superframe) → blockIn (superframeOut (OS.Some f)) ≡ f
-block-back f = simp (bit-back, u8-back, u32-back)
+block-back f = simp (is-bit, u8-back, u32-back)
 
 superframe-back : (o : OptionSuperframe) → someSuperframeIf (isSomeSuperframe o) (blockIn (superframeOut o)) ≡ o
 superframe-back (OS.Some f) = simp block-back
 superframe-back OS.None = refl
 
 pub back : (r : S2Xv2SatelliteDeliverySystem) → recordIn (recordOut r) ≡ r
-back r = simp (bit-back, mode-back, bool-back, u8-back, u32-back, superframe-back)
+back r = simp (is-bit, mode-back, bool-back, u8-back, u32-back, superframe-back)
 
 -- ---- what is seen of a value that a flag says is there
 pub is-bool : (b v : Bool) → isSomeBool (someBoolIf b v) ≡ b
 is-bool true v = refl
 is-bool false v = refl
-
-pub is-selected : (b v : Bool) → selected (someBoolIf b v) ≡ and b v
-is-selected true v = refl
-is-selected false v = refl
 
 pub is-8 : (b : Bool) (v : ℕ) → isSome8 (some8If b v) ≡ b
 is-8 true v = refl

@@ -25,10 +25,10 @@ pub fn line(out: &mut [u8], at: usize, name: &[u8], value: u64) -> usize
 }
 
 // A line with a number of one byte.
-pub fn line8(out: &mut [u8], at: usize, name: &[u8], value: u8) -> usize
-    ensures { λ r. ⌜ Wrote (now (out .entry) from at) (lineOf (now (name .entry)) value) (now (out .exit) from r) ⌝ }
+pub fn line8(out: &mut [u8], at: usize, name: &[u8], byte: u8) -> usize
+    ensures { λ r. ⌜ Wrote (now (out .entry) from at) (lineOf (now (name .entry)) byte) (now (out .exit) from r) ⌝ }
 {
-    line(out, at, name, value as u64)
+    line(out, at, name, byte as u64)
 }
 
 // A line with a number of four bytes.

@@ -8,6 +8,8 @@ use lib.Dec.{eqb, ltb}
 use lib.ListN.{take, drop}
 use borrow.Author.Tests.{lt-leb}
 use Rattle.wire.specs.Flags.{when, bit, isOne, and, not, differ}
+use Rattle.wire.proofs.Flags.{never, is-bit}
+use Rattle.s2xv2.proofs.Back.{is-selected}
 use Rattle.s2xv2.specs.Table144c.{modeOf}
 use Rattle.s2xv2.specs.Options.{isSomeBool, isSome32, selected, orZero32, someBoolIf, some8If, some32If, someSuperframeIf}
 use Rattle.s2xv2.specs.Encode.{nibbleOf}
@@ -15,9 +17,8 @@ use Rattle.s2xv2.specs.ListA.{partsA, superframeA, listA}
 use Rattle.s2xv2.specs.ListB.{wide, coreB, scramblingB, bondB, superframeB, listB}
 use Rattle.s2xv2.proofs.Lists.{Clear}
 use Rattle.flat_in.specs.Input.{blockIn, recordIn, valid}
-use Rattle.flat_in.proofs.Back.{is-bool, is-selected, is-8, is-32, is-superframe}
+use Rattle.flat_in.proofs.Back.{is-bool, is-8, is-32, is-superframe}
 use Rattle.flat.specs.declared.types.FlatRecord.{FlatRecord}
-use Rattle.measure.proofs.Flags.{never, is-bit}
 use Rattle.measure.proofs.Due.{dueIn, asked}
 
 -- ---- tests that fail

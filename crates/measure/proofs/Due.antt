@@ -4,11 +4,12 @@
 use mathlib.Core.Path.{_≡_, refl, sym, ap, _∙_}
 use mathlib.Core.Bool.{Bool, true, false}
 use mathlib.Core.List.{List, [], _∷_}
-use Prim.Native.Nat.{ℕ, _+_, _*_, _≤_, _<_}
+use Prim.Native.Nat.{ℕ, _+_, _*_, _≤_}
 use native.Mathlib.Omega.{arith}
 use lib.ListN.{getD, List·getD-eq-default}
 use borrow.Author.Tests.{ltb-true}
 use Rattle.wire.specs.Flags.{when, bit, isOne}
+use Rattle.wire.proofs.Flags.{is-bit, bit-small}
 use Rattle.s2xv2.specs.Table144c.{modeOf, codeOf, hasSelector, hasTimeslice, hasSuperframe}
 use Rattle.s2xv2.specs.ListA.{misnamed}
 use Rattle.s2xv2.proofs.Modes.{by-code, code-mode, mode-named}
@@ -18,7 +19,7 @@ use Rattle.flat_in.specs.Input.{modeIn, valid}
 use Rattle.flat.specs.Output.{isReserved}
 use Rattle.flat_in.proofs.Back.{reserved-flag}
 use Rattle.flat.specs.declared.types.FlatRecord.{FlatRecord}
-use Rattle.measure.proofs.Flags.{is-bit, flagged}
+use Rattle.measure.proofs.Flags.{flagged}
 
 abbrev pub dueIn : S2Xv2Mode → ℕ
 dueIn m = bit (hasSelector m) + 2 * bit (hasTimeslice m) + 4 * bit (hasSuperframe m) + 8 * isReserved m
@@ -42,10 +43,6 @@ code-in res code = go (isOne res)
     go false = code-mode code
 
 -- ---- parts that are counted alike
-
-bit-small : (b : Bool) → bit b < 2
-bit-small true = omega arith
-bit-small false = omega arith
 
 -- a flag that says of a code's mode what is so changes nothing
 mode-same : (n res : ℕ) → res ≡ isReserved (modeOf n) → modeIn res n ≡ modeOf n

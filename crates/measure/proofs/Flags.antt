@@ -1,4 +1,4 @@
--- Laws of flags that are 0 or 1: such a byte is its own bit; and every flag of a record that could be one is such a byte.
+-- Laws of flags that cross as bytes: every flag of a record that could be one is 0 or 1 (`flagged`), and what is joined, both or only there goes by such bytes.
 -- Assumes nothing.
 use mathlib.Core.Path.{_≡_, refl, sym, ap, ap₂, _∙_}
 use mathlib.Core.Bool.{Bool, true, false}
@@ -19,20 +19,9 @@ use Rattle.s2xv2.specs.declared.superframe.S2Xv2Superframe.{S2Xv2Superframe}
 use Rattle.s2xv2.specs.declared.option.OptionU32.{OptionU32}
 use Rattle.flat_in.specs.Input.{blockIn, valid, flags, recordFlags, blockFlags}
 use Rattle.wire.proofs.Joined.{joined-below}
+use Rattle.wire.proofs.Flags.{never}
 use Rattle.flat.specs.declared.types.FlatSuperframe.{FlatSuperframe}
 use Rattle.flat.specs.declared.types.FlatRecord.{FlatRecord}
-
-pub never : {X : Type 0} → false ≡ true → X
-never e = absurd (let z : _≡_ {A = ℕ} 0 1 = cc in omega arith)
-
-pub bit-is : (b : ℕ) → b < 2 → bit (isOne b) ≡ b
-bit-is zero h = refl
-bit-is (suc zero) h = refl
-bit-is (suc (suc n)) h = absurd (omega arith)
-
-pub is-bit : (b : Bool) → isOne (bit b) ≡ b
-is-bit true = refl
-is-bit false = refl
 
 pub both-bits : (a b : ℕ) → a < 2 → b < 2 → bitAnd a b ≡ bit (and (isOne a) (isOne b))
 both-bits zero zero h k = refl

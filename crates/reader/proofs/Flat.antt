@@ -9,6 +9,8 @@ use borrow.Author.Tests.{ltb-false}
 use lib.ListN.{length}
 use lib.Dec.{ltb}
 use Rattle.wire.specs.Flags.{bit, isOne, when, and, not}
+use Rattle.wire.proofs.Flags.{bit-is}
+use Rattle.s2xv2.proofs.Back.{is-selected}
 use Rattle.s2xv2.specs.Default.{defaultRecord}
 use Rattle.s2xv2.specs.Answer.{saturated, told}
 use Rattle.s2xv2.specs.Read.{Need, needs, presentIn, bodySize, shortTold, readTold, superframeAt, recordAt, recordOf, recordIn}
@@ -16,17 +18,16 @@ use Rattle.s2xv2.specs.declared.superframe.OptionSuperframe.the-variants as OS
 use Rattle.layout.specs.Layout.{asked, endsNow}
 use Rattle.layout.specs.declared.present.Present.{Present}
 use Rattle.layout.specs.declared.ends.Ends.{Ends}
-use Rattle.s2xv2.proofs.Back.{bit-of}
 use Rattle.s2xv2.proofs.Modes.{code-mode}
 use Rattle.flat.specs.Core.{coreOf}
 use Rattle.flat.specs.Output.{answerOut, superframeOut, recordOut}
-use Rattle.flat_in.proofs.Back.{is-bool, is-selected, is-8, is-32, is-superframe}
+use Rattle.flat_in.proofs.Back.{is-bool, is-8, is-32, is-superframe}
 use Rattle.reader.specs.Seen.{answerIn}
 use Rattle.reader.proofs.Numbers.{flatBlockAt, flatCoreAt, flatRecordAt}
 
 -- a bit is itself, taken for a flag
 bit-mod : (x : ℕ) → bit (isOne (x % 2)) ≡ x % 2
-bit-mod x = bit-of (x % 2) (omega arith)
+bit-mod x = bit-is (x % 2) (omega arith)
 
 -- a bit that stands only where a flag is clear
 top-clear : (h : Bool) (x : ℕ) → bit (and (not h) (isOne (x % 2))) ≡ when h 0 (x % 2)

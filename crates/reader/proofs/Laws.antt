@@ -8,6 +8,7 @@ use native.Mathlib.Nat.{le-refl}
 use native.Mathlib.Omega.{arith}
 use lib.ListN.{length, take, drop, length-drop}
 use lib.Seq.{take-all}
+use Rattle.s2xv2.proofs.Sizes.{of-bond}
 use Rattle.s2xv2.specs.Read.{only, timesliceEnd, hasSecond, bondSize, superframeSize, superframeEnd}
 use Rattle.layout.specs.Layout.{asked, endsNow}
 use Rattle.layout.specs.declared.present.Present.{Present}
@@ -16,11 +17,6 @@ use Rattle.layout.specs.declared.ends.Ends.{Ends}
 one : (b : Bool) (n : ℕ) → only b n ≤ n
 one true n = le-refl n
 one false n = omega arith
-
-bond : (b d : Bool) → only b (bondSize d) ≤ 9
-bond true true = omega arith
-bond true false = omega arith
-bond false d = omega arith
 
 -- the body reaches the end of each part, and the last one starts below 100
 pub record Reached (s : List ℕ) (k : Present) (e : Ends) : Type 0 where
@@ -40,7 +36,7 @@ reached s k e (same, last) = rw same (go (rw same at last))
         let a = one (k .stream) 1 in
         let b = one (k .scrambling) 3 in
         let c = one (k .timeslice) 1 in
-        let d = bond (k .bond) (hasSecond s (timesliceEnd (asked k))) in
+        let d = of-bond (k .bond) (hasSecond s (timesliceEnd (asked k))) in
         record {
           core = omega arith;
           stream = omega arith;

@@ -7,13 +7,12 @@ use Prim.Native.Nat.{ℕ, _+_, _≤_, _<_}
 use native.Mathlib.Nat.{add-zero}
 use native.Mathlib.Omega.{arith}
 use lib.ListN.{length, getD, drop}
-use lib.Dec.{eqb}
-use borrow.Author.Tests.{eqb-true, eqb-false}
 use Rattle.wire.specs.Flags.{when, bit, isOne, and}
 use Rattle.wire.specs.Widths.{cut, pack, Bytes}
 use Rattle.wire.specs.Parts.{Part, _⦂_, bytesOf}
 use Rattle.wire.proofs.Cut.{fit-cut}
 use Rattle.wire.proofs.Parts.{bytesOf-append, found}
+use Rattle.wire.proofs.Flags.{bit-is}
 use Rattle.s2xv2.specs.Table144b as T
 use Rattle.s2xv2.specs.Table144c.{modeOf, hasSelector}
 use Rattle.s2xv2.specs.Options.{selected, someBoolIf, some8If, someSuperframeIf}
@@ -24,20 +23,13 @@ use Rattle.s2xv2.proofs.Modes.{code-mode}
 
 -- ---- what is made of a field gives the field back
 
-pub bit-of : (x : ℕ) → x < 2 → bit (isOne x) ≡ x
-bit-of x h = go (eqb x 1) (eqb-true x 1) (eqb-false x 1)
-  where
-    go : (t : Bool) → (t ≡ true → x ≡ 1) → (t ≡ false → x ≡ 1 → ⊥) → bit t ≡ x
-    go true f g = sym (f refl)
-    go false f g = omega (arith, g refl)
-
 top-back : (has : Bool) (x : ℕ) → x < 2 → topBit (someBoolIf has (isOne x)) (when has 0 x) ≡ x
-top-back true x h = bit-of x h
+top-back true x h = bit-is x h
 top-back false x h = refl
 
-pub selected-back : (has b : Bool) → selected (someBoolIf has b) ≡ and has b
-selected-back true b = refl
-selected-back false b = refl
+pub is-selected : (has b : Bool) → selected (someBoolIf has b) ≡ and has b
+is-selected true b = refl
+is-selected false b = refl
 
 pub nibble-back : (t : Bool) (x : ℕ) → nibbleOf t (some8If t x) (when t 0 x) ≡ x
 nibble-back true x = refl
@@ -59,9 +51,9 @@ module _ (s : List ℕ) (y : Bytes s) where
       let f = fit-cut s 0 T.core refl y in
       simp (
         code-mode,
-        bit-of _ (f .1 .1 .0),
-        bit-of _ (f .1 .1 .1 .1 .1 .0),
-        bit-of _ (f .1 .1 .1 .1 .1 .1 .0),
+        bit-is _ (f .1 .1 .0),
+        bit-is _ (f .1 .1 .1 .1 .1 .0),
+        bit-is _ (f .1 .1 .1 .1 .1 .1 .0),
         top-back (hasSelector (modeOf mode)) top (f .1 .1 .1 .1 .1 .1 .1 .1 .1 .0),
       )
 
@@ -69,7 +61,7 @@ module _ (s : List ℕ) (y : Bytes s) where
   unfolding superframeAt
   block-back p d =
       let f = fit-cut s p T.superframe refl y in
-      simp (bit-of _ (f .1 .0), bit-of _ (f .1 .1 .0), nibble-back)
+      simp (bit-is _ (f .1 .0), bit-is _ (f .1 .1 .0), nibble-back)
 
   byte-encodes : (p : ℕ) (t : Bool) → p + only t 1 ≤ length s → drop p s ≡ bytesOf (byteParts (8 ∷ []) (byteAt s p t)) (drop (p + only t 1) s)
   unfolding byteParts
@@ -83,7 +75,7 @@ module _ (s : List ℕ) (y : Bytes s) where
 
   header-encodes : (p : ℕ) (d : Bool) → hasSecond s p ≡ d → p + 1 ≤ length s → drop p s ≡ pack T.bondHeader (reserved7At s p true ∷ bit d ∷ []) ++ drop (p + 1) s
   header-encodes p d e h =
-      let x : getD (cut s p T.bondHeader) 1 0 ≡ bit d = sym (bit-of _ (fit-cut s p T.bondHeader refl y .1 .0)) ∙ ap bit e in
+      let x : getD (cut s p T.bondHeader) 1 0 ≡ bit d = sym (bit-is _ (fit-cut s p T.bondHeader refl y .1 .0)) ∙ ap bit e in
       found s p T.bondHeader refl y h ∙ ap (λ (k : ℕ). pack T.bondHeader (reserved7At s p true ∷ k ∷ []) ++ drop (p + 1) s) x
 
   id-encodes : (p q : ℕ) → p + 4 ≤ length s → p + 4 ≡ q → drop p s ≡ pack T.bondId (cut s p T.bondId) ++ drop q s
@@ -184,7 +176,7 @@ module _ (s : List ℕ) (y : Bytes s) where
   unfolding partsOf recordAt presentIn
   parts-back =
       ap (λ (vs : List ℕ). T.core ⦂ vs ∷ rest₀ (selected (someBoolIf (hasSelector (modeOf mode)) (isOne top))) (presentIn s)) core-back
-      ∙ ap (λ (t : Bool). T.core ⦂ cut s 0 T.core ∷ rest₀ t (presentIn s)) (selected-back (hasSelector (modeOf mode)) (isOne top))
+      ∙ ap (λ (t : Bool). T.core ⦂ cut s 0 T.core ∷ rest₀ t (presentIn s)) (is-selected (hasSelector (modeOf mode)) (isOne top))
 
   -- Writing what was read, with its tail, gives the bytes.
   pub encode-read : bodySize s ≤ length s → encode (recordIn s) (drop (bodySize s) s) ≡ s

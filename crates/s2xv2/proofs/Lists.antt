@@ -10,10 +10,11 @@ use native.Mathlib.Nat.{add-zero}
 use lib.ListN.{length, getD}
 use lib.Dec.{eqb, ltb}
 use borrow.Author.Tests.{ltb-false, leb-false, ne-eqb}
-use Rattle.wire.specs.Flags.{when, bit, and, not, differ}
+use Rattle.wire.specs.Flags.{when, and, not, differ}
 use Rattle.wire.specs.Widths.{Fit}
 use Rattle.wire.specs.Parts.{_⦂_, AllFit}
 use Rattle.wire.proofs.Parts.{fit-append}
+use Rattle.wire.proofs.Flags.{bit-small}
 use Rattle.s2xv2.specs.Table144b as T
 use Rattle.s2xv2.specs.Table144c.{modeOf, codeOf, hasSelector, hasTimeslice, hasSuperframe}
 use Rattle.s2xv2.specs.Options.{isSomeBool, isSome8, isSome32, isSomeSuperframe, selected, orZero8, orZero32}
@@ -144,12 +145,8 @@ module _ (r : S2Xv2SatelliteDeliverySystem) (a : Clear (listA r)) (b : Clear (li
 
 -- ---- each part fits
 
-bit-fits : (b : Bool) → bit b < 2 ^ 1
-bit-fits true = omega arith
-bit-fits false = omega arith
-
 pub top-fits : (c : OptionBool) (v : ℕ) → and (not (isSomeBool c)) (wide 1 v) ≡ false → topBit c v < 2 ^ 1
-top-fits (OB.Some b) v e = bit-fits b
+top-fits (OB.Some b) v e = bit-small b
 top-fits OB.None v e = narrow 1 v e
 
 byte-fits : (v : OptionU8) → orZero8 v < 2 ^ 8 → AllFit (byteParts (8 ∷ []) v)
@@ -179,7 +176,7 @@ plan-fits false v f h k = (k, tt)
 superframe-fits : (o : OptionSuperframe) → Clear (superframeB o) → HeldSuperframe o → AllFit (superframeParts o)
 unfolding superframeParts
 superframe-fits (OS.Some f) b h = (
-  (h .sosf, (bit-fits (f .«sffi_selector»), (bit-fits (f .«beam_hopping_time_plan_selector»), (narrow 2 _ (b .1 .1 .0), (narrow 20 _ (b .0), (narrow 4 _ (b .1 .1 .1 .1 .0), (narrow 20 _ (b .1 .0), tt))))))),
+  (h .sosf, (bit-small (f .«sffi_selector»), (bit-small (f .«beam_hopping_time_plan_selector»), (narrow 2 _ (b .1 .1 .0), (narrow 20 _ (b .0), (narrow 4 _ (b .1 .1 .1 .1 .0), (narrow 20 _ (b .1 .0), tt))))))),
   plan-fits (f .«beam_hopping_time_plan_selector») (f .«beamhopping_time_plan_id») f (h .plan)
       (narrow 5 _ (b .1 .1 .1 .1 .1 .1 .0), (narrow 3 _ (b .1 .1 .1 .1 .1 .1 .1 .0), tt)),
 )
@@ -194,15 +191,15 @@ module _ (r : S2Xv2SatelliteDeliverySystem) (b : Clear (listB r)) (h : Held r) w
     (
       narrow 4 _ (b .0),
       (
-        bit-fits (r .«multiple_input_stream_flag»),
+        bit-small (r .«multiple_input_stream_flag»),
         (
           narrow 3 _ (b .1 .0),
           (
             narrow 2 _ (b .1 .1 .0),
             (
-              bit-fits (r .«ncr_reference»),
+              bit-small (r .«ncr_reference»),
               (
-                bit-fits (r .«ncr_version»),
+                bit-small (r .«ncr_version»),
                 (
                   narrow 2 _ (b .1 .1 .1 .0),
                   (

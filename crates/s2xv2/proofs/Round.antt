@@ -9,10 +9,11 @@ use native.Mathlib.Nat.{zero-add, add-assoc}
 use native.Mathlib.Omega.{arith}
 use lib.ListN.{getD, drop}
 use lib.Dec.{eqb}
-use Rattle.wire.specs.Flags.{when, bit, isOne, and}
+use Rattle.wire.specs.Flags.{when, isOne, and}
 use Rattle.wire.specs.Widths.{cut, pack, Fit, Bytes}
 use Rattle.wire.specs.Parts.{Part, _⦂_, bytesOf, sizes, AllFit}
 use Rattle.wire.proofs.Parts.{bytesOf-append, sizes-append, fit-left, fit-right, bytes-bytesOf, Stands, Found, find, after}
+use Rattle.wire.proofs.Flags.{never, is-bit}
 use Rattle.s2xv2.specs.Table144b as T
 use Rattle.s2xv2.specs.Options.{isSomeBool, isSome8, isSome32, isSomeSuperframe, selected, someBoolIf, some8If, someSuperframeIf}
 use Rattle.s2xv2.specs.Read.{Present, presentFrom, presentIn, only, streamEnd, scramblingEnd, timesliceEnd, hasSecond, bondSize, bondEnd, hasPlan, superframeSize, superframeEnd, bodySize, superframeFrom, superframeAt, byteAt, reserved6At, indexAt, reserved7At, countIf, firstIdAt, secondIdAt, recordFrom, recordAt, recordIn, readTold, Reading, readOf, tailOf}
@@ -35,20 +36,13 @@ use Rattle.s2xv2.proofs.Lists.{first-clear, AgreesBlock, AgreesSuperfra
 use Rattle.s2xv2.proofs.Whole.{byte-size, scrambling-size, whole-byte, whole-scrambling, whole-bond, whole-parts, encode-length}
 use Rattle.s2xv2.proofs.Reach.{reads-accepted}
 
-false-true : false ≡ true → ⊥
-false-true e = let z : _≡_ {A = ℕ} 0 1 = cc in omega arith
-
-bit-set : (b : Bool) → isOne (bit b) ≡ b
-bit-set true = refl
-bit-set false = refl
-
 nth : {vs ws : List ℕ} (i : ℕ) → vs ≡ ws → getD vs i 0 ≡ getD ws i 0
 nth i e = ap (λ (l : List ℕ). getD l i 0) e
 
 -- ---- two values that share a field: the selector and what is reserved in its place, SFFI and what is reserved in its place
 
 shared-selector : (c : OptionBool) (v : ℕ) → someBoolIf (isSomeBool c) (isOne (topBit c v)) ≡ c
-shared-selector (OB.Some b) v = ap OB.Some (bit-set b)
+shared-selector (OB.Some b) v = ap OB.Some (is-bit b)
 shared-selector OB.None v = refl
 
 shared-reserved : (c : OptionBool) (v : ℕ) → when (isSomeBool c) 0 (topBit c v) ≡ when (isSomeBool c) 0 v
@@ -56,13 +50,13 @@ shared-reserved (OB.Some b) v = refl
 shared-reserved OB.None v = refl
 
 selected-set : (c : OptionBool) (v : ℕ) → and (isSomeBool c) (isOne (topBit c v)) ≡ selected c
-selected-set (OB.Some b) v = bit-set b
+selected-set (OB.Some b) v = is-bit b
 selected-set OB.None v = refl
 
 shared-sffi : (t : Bool) (v : OptionU8) (r : ℕ) → isSome8 v ≡ t → some8If t (nibbleOf t v r) ≡ v
 shared-sffi true (O8.Some v) r e = refl
-shared-sffi true O8.None r e = absurd (false-true e)
-shared-sffi false (O8.Some v) r e = absurd (false-true (sym e))
+shared-sffi true O8.None r e = never e
+shared-sffi false (O8.Some v) r e = never (sym e)
 shared-sffi false O8.None r e = refl
 
 shared-nibble : (t : Bool) (v : OptionU8) (r : ℕ) → when t 0 (nibbleOf t v r) ≡ when t 0 r
@@ -89,7 +83,7 @@ record SuperframeReads (s : List ℕ) (p : ℕ) (o : OptionSuperframe) : Type 0 
 
 -- the block of the values of f, with f's plan id, is f as the wire carries it
 block-from : (f : S2Xv2Superframe) → AgreesBlock f → superframeFrom (superframeValues f) (f .«beamhopping_time_plan_id») (superframeEndValues f) ≡ carriedBlock f
-block-from f c = simp (bit-set, shared-sffi (f .«sffi_selector») (f .sffi) (f .«reserved_zero_future_use_4») (c .sffi), shared-nibble)
+block-from f c = simp (is-bit, shared-sffi (f .«sffi_selector») (f .sffi) (f .«reserved_zero_future_use_4») (c .sffi), shared-nibble)
 
 block-at : (s : List ℕ) (p q : ℕ) (f : S2Xv2Superframe) (v : OptionU32) → AgreesBlock f → cut s p T.superframe ≡ superframeValues f → f .«beamhopping_time_plan_id» ≡ v
     → cut s q T.superframeEnd ≡ superframeEndValues f → superframeFrom (cut s p T.superframe) v (cut s q T.superframeEnd) ≡ carriedBlock f
@@ -111,8 +105,8 @@ module _ (s : List ℕ) (b : Bytes s) where
   scrambling-reads {p} l true r (O32.Some v) e f h =
       let x = find T.scrambling (r ∷ v ∷ []) refl (f .0) b h in
       record { reserved = nth 0 (x .fields); index = ap O32.Some (nth 1 (x .fields)) }
-  scrambling-reads {p} l true r O32.None e f h = absurd (false-true e)
-  scrambling-reads {p} l false r (O32.Some v) e f h = absurd (false-true (sym e))
+  scrambling-reads {p} l true r O32.None e f h = never e
+  scrambling-reads {p} l false r (O32.Some v) e f h = never (sym e)
   scrambling-reads {p} l false r O32.None e f h = record { reserved = refl; index = refl }
 
   bond-reads : {p : ℕ} (l : List ℕ) (t : Bool) (r n : ℕ) (ids : List ℕ) → (t ≡ false → n ≡ 0) → AllFit (bondParts t r n ids)
@@ -143,13 +137,13 @@ module _ (s : List ℕ) (b : Bytes s) where
       let x = find T.superframe (superframeValues f) refl g b h in
       let y = find T.plan (v ∷ []) refl (k .0) b (x .rest) in
       let z = find T.superframeEnd (superframeEndValues f) refl (k .1 .0) b (rw (add-assoc p 7 4) at (y .rest)) in
-      (ap isOne (nth 2 (x .fields)) ∙ bit-set _ ∙ e, simp (nth 0 (y .fields)) (block-at s p (p + 11) f (O32.Some v) c (x .fields) d (z .fields)))
-  block-reads {p} l f c true e O32.None d g k h = absurd (false-true (sym (ap isSome32 d) ∙ c .plan ∙ e))
-  block-reads {p} l f c false e (O32.Some v) d g k h = absurd (false-true (sym e ∙ sym (c .plan) ∙ ap isSome32 d))
+      (ap isOne (nth 2 (x .fields)) ∙ is-bit _ ∙ e, simp (nth 0 (y .fields)) (block-at s p (p + 11) f (O32.Some v) c (x .fields) d (z .fields)))
+  block-reads {p} l f c true e O32.None d g k h = never (sym (ap isSome32 d) ∙ c .plan ∙ e)
+  block-reads {p} l f c false e (O32.Some v) d g k h = never (sym e ∙ sym (c .plan) ∙ ap isSome32 d)
   block-reads {p} l f c false e O32.None d g k h =
       let x = find T.superframe (superframeValues f) refl g b h in
       let z = find T.superframeEnd (superframeEndValues f) refl (k .0) b (x .rest) in
-      (ap isOne (nth 2 (x .fields)) ∙ bit-set _ ∙ e, block-at s p (p + 7) f O32.None c (x .fields) d (z .fields))
+      (ap isOne (nth 2 (x .fields)) ∙ is-bit _ ∙ e, block-at s p (p + 7) f O32.None c (x .fields) d (z .fields))
 
   superframe-reads : {p : ℕ} (l : List ℕ) (o : OptionSuperframe) → AgreesSuperframe o → AllFit (superframeParts o) → Stands s p (bytesOf (superframeParts o) l)
       → SuperframeReads s p o
@@ -176,7 +170,7 @@ presentOf r = record {
 }
 
 present-from : (r : S2Xv2SatelliteDeliverySystem) → Agrees r → presentFrom (coreValues r) ≡ presentOf r
-present-from r c = simp (c .mode, bit-set, sym (c .stream), sym (c .selector), selected-set, sym (c .timeslice), sym (c .superframe))
+present-from r c = simp (c .mode, is-bit, sym (c .stream), sym (c .selector), selected-set, sym (c .timeslice), sym (c .superframe))
 
 -- the record of the core's values vs and of r's other parts, as the wire carries them
 abbrev again : S2Xv2SatelliteDeliverySystem → List ℕ → S2Xv2SatelliteDeliverySystem
@@ -190,7 +184,7 @@ again r vs =
 
 record-from : (r : S2Xv2SatelliteDeliverySystem) → Agrees r → again r (coreValues r) ≡ carried r
 unfolding carried
-record-from r c = simp (c .mode, bit-set, sym (c .selector), shared-selector, shared-reserved)
+record-from r c = simp (c .mode, is-bit, sym (c .selector), shared-selector, shared-reserved)
 
 module _ (s : List ℕ) (r : S2Xv2SatelliteDeliverySystem) (tail : List ℕ) (b : Bytes s) (c : Agrees r) (f : AllFit (partsOf r)) (st : Stands s 0 (encode r tail)) where
   abbrev rest₁ : List Part

@@ -45,7 +45,7 @@ of-flag : (b : Bool) → only b 1 ≤ 1
 of-flag true = omega arith
 of-flag false = omega arith
 
-of-bond : (b d : Bool) → only b (bondSize d) ≤ 9
+pub of-bond : (b d : Bool) → only b (bondSize d) ≤ 9
 of-bond true true = omega arith
 of-bond true false = omega arith
 of-bond false d = omega arith

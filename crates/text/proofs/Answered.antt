@@ -1,30 +1,17 @@
 -- The text of a body by what the reader answers: `accepted-text` and `refused-text`. Assumes nothing.
 use Prim.Native.Nat.{ℕ}
-use mathlib.Core.Path.{_≡_, refl, sym, _∙_, ap}
-use mathlib.Core.Bool.{false}
+use mathlib.Core.Path.{_≡_, sym, _∙_, ap}
 use mathlib.Core.List.{List, [], _∷_}
 use lib.ListN.{length}
-use lib.Dec.{eqb}
+use Rattle.s2xv2.proofs.Reach.{refused-number}
 use Rattle.s2xv2.specs.Answer.{numbers, told}
-use Rattle.s2xv2.specs.Read.{Reading, readTold, numberOf, readOf, tailOf}
+use Rattle.s2xv2.specs.Read.{Reading, readTold, readOf, tailOf}
 use Rattle.s2xv2.specs.declared.answer.Refusal.{Refusal}
-use Rattle.s2xv2.specs.declared.answer.Refusal.the-variants as R
 use Rattle.s2xv2.specs.declared.answer.Answer.the-variants as A
 use Rattle.reader.specs.Seen.{seen}
 use Rattle.reader.specs.declared.Parsed.{Parsed}
 use Rattle.lines.specs.Line.{refusedOf}
 use Rattle.text.specs.Dump.{bodyOf, dumpOf}
-
--- no refusal has the number of what is accepted
-refusal-number : (why : Refusal) → eqb (numberOf (numbers why)) 0 ≡ false
-refusal-number (R.Short place need have) = refl
-refusal-number (R.Long length) = refl
-refusal-number (R.Inconsistent place) = refl
-refusal-number (R.Field place) = refl
-refusal-number (R.Room need have) = refl
-refusal-number R.Slot = refl
-refusal-number (R.NoFit size) = refl
-refusal-number R.OtherSize = refl
 
 module _ (s : List ℕ) (r : Parsed) (e : seen r ≡ readOf s) where
   told-is : told (r .answer) ≡ readTold s
@@ -41,4 +28,4 @@ module _ (s : List ℕ) (r : Parsed) (e : seen r ≡ readOf s) where
   unfolding dumpOf
   refused-text why h =
       let t : readTold s ≡ numbers why = sym told-is ∙ ap told h in
-      rw (t, refusal-number why)
+      rw (t, refused-number why)

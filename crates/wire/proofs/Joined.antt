@@ -17,11 +17,3 @@ joined-below k a b = go (ltb a (2 ^ k)) (ltb b (2 ^ k)) refl refl
     go true true d e = lt-ltb (bitOr a b) (2 ^ k) (or-lt k a b (ltb-true a (2 ^ k) d) (ltb-true b (2 ^ k) e))
     go true false d e = le-ltb (bitOr a b) (2 ^ k) (omega (arith, ltb-false b (2 ^ k) e, or-add-and a b, and-le-l a b))
     go false t d e = le-ltb (bitOr a b) (2 ^ k) (omega (arith, ltb-false a (2 ^ k) d, or-add-and a b, and-le-r a b))
-
-pub and-assoc : (a b c : Bool) → and (and a b) c ≡ and a (and b c)
-and-assoc true b c = refl
-and-assoc false b c = refl
-
-pub and-true : (t : Bool) → and t true ≡ t
-and-true true = refl
-and-true false = refl

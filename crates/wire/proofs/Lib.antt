@@ -1,4 +1,5 @@
 pub mod Cut
+pub mod Flags
 pub mod Joined
 pub mod Parts
 pub mod Stores

@@ -4,12 +4,12 @@ use mathlib.Core.Path.{_≡_, refl, sym}
 use mathlib.Core.Bool.{Bool, true, false}
 use Prim.Native.Nat.{ℕ, _<_}
 use Rattle.wire.specs.Flags.{when, isOne, and, not}
+use Rattle.wire.proofs.Flags.{never, bit-is}
 use Rattle.s2xv2.specs.Options.{isSomeBool, some8If, some32If, someBoolIf}
 use Rattle.s2xv2.specs.ListB.{wide}
 use Rattle.s2xv2.proofs.Lists.{narrow}
 use Rattle.s2xv2.specs.Encode.{topBit, scramblingParts, nibbleOf, planParts}
 use Rattle.s2xv2.specs.declared.option.OptionU32.the-variants as O32
-use Rattle.measure.proofs.Flags.{never, bit-is}
 
 -- ---- a value that is there where it is asked for is the value itself
 

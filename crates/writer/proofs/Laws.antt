@@ -22,11 +22,12 @@ use Rattle.s2xv2.specs.declared.superframe.OptionSuperframe.the-variants as OS
 use Rattle.s2xv2.proofs.Lists.{Clear, clear-left, clear-right, narrow}
 use Rattle.s2xv2.proofs.Whole.{bond-size}
 use Rattle.wire.specs.Flags.{isOne, and, not}
+use Rattle.wire.proofs.Flags.{never}
+use Rattle.s2xv2.proofs.Back.{is-selected}
 use Rattle.flat_in.specs.Input.{blockIn, recordIn}
-use Rattle.flat_in.proofs.Back.{is-selected, is-32}
+use Rattle.flat_in.proofs.Back.{is-32}
 use Rattle.flat.specs.declared.types.FlatSuperframe.{FlatSuperframe}
 use Rattle.flat.specs.declared.types.FlatRecord.{FlatRecord}
-use Rattle.measure.proofs.Flags.{never}
 use Rattle.writer.proofs.Flags.{there-scrambling, there-plan}
 
 -- ---- a count that list B passes is 1 or 2

@@ -7,7 +7,8 @@ use lib.Dec.{ltb}
 use borrow.Author.Tests.{lt-ltb, le-ltb}
 use Rattle.wire.specs.Flags.{and}
 use Rattle.flat_in.specs.Input.{flags, recordFlags, blockFlags, named, valid}
-use Rattle.wire.proofs.Joined.{joined-below, and-assoc}
+use Rattle.wire.proofs.Joined.{joined-below}
+use Rattle.wire.proofs.Flags.{and-assoc}
 use borrow.Author.Needs.{needs}
 use Rattle.flat_in.proofs.is_valid.Statement.{statement}
 use Rattle.flat_in.proofs.is_valid.Tie as tie

@@ -1,6 +1,7 @@
 -- `flat_in::record_flags` meets its contract: joined flags are below 2 only if each is.
 -- Assumes nothing.
-use Rattle.wire.proofs.Joined.{joined-below, and-assoc, and-true}
+use Rattle.wire.proofs.Joined.{joined-below}
+use Rattle.wire.proofs.Flags.{and-assoc, and-true}
 use borrow.Author.Needs.{needs}
 use Rattle.flat_in.proofs.record_flags.Statement.{statement}
 use Rattle.flat_in.proofs.record_flags.Tie as tie

@@ -1,7 +1,7 @@
 -- `lists::list_b::u8_missing` meets its contract: the arm that was taken is the case of the definition.
 -- Assumes nothing.
 use mathlib.Core.Path.{sym}
-use Rattle.lists.proofs.Laws.{and-false, and-true}
+use Rattle.wire.proofs.Flags.{and-true, and-false}
 use borrow.Author.Needs.{needs}
 use Rattle.lists.proofs.list_b.u8_missing.Statement.{statement}
 use Rattle.lists.proofs.list_b.u8_missing.Tie as tie

@@ -2,7 +2,8 @@
 -- Assumes nothing.
 use mathlib.Core.Path.{sym, _∙_}
 use borrow.Author.Tests.{eqb-true, ne-eqb}
-use Rattle.measure.proofs.Flags.{never, on-the-way, flagged}
+use Rattle.wire.proofs.Flags.{never}
+use Rattle.measure.proofs.Flags.{on-the-way, flagged}
 use Rattle.measure.proofs.Checked.{agreed}
 use borrow.Author.Needs.{needs}
 use Rattle.measure.proofs.checks.agrees.Statement.{statement}

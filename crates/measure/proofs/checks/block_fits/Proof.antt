@@ -3,8 +3,9 @@
 use mathlib.Core.Path.{sym, ap, _∙_}
 use borrow.Author.Tests.{ltb-true, le-ltb, lt-leb, eqb-true}
 use Rattle.wire.specs.Flags.{isOne}
+use Rattle.wire.proofs.Flags.{never}
 use Rattle.flat_in.proofs.Back.{is-8, is-32}
-use Rattle.measure.proofs.Flags.{never, on-the-way, fits}
+use Rattle.measure.proofs.Flags.{on-the-way, fits}
 use Rattle.measure.proofs.Checked.{and-not, nibble-clear}
 use borrow.Author.Needs.{needs}
 use Rattle.measure.proofs.checks.block_fits.Statement.{statement}

@@ -3,8 +3,8 @@
 use mathlib.Core.Path.{refl, sym, _∙_}
 use lib.Dec.{ltb}
 use borrow.Author.Tests.{le-ltb, lt-leb, eq-eqb, ne-eqb, eqb-true}
-use Rattle.lists.proofs.Laws.{and-false}
-use Rattle.measure.proofs.Flags.{never, fits}
+use Rattle.wire.proofs.Flags.{never, and-false}
+use Rattle.measure.proofs.Flags.{fits}
 use borrow.Author.Needs.{needs}
 use Rattle.measure.proofs.checks.bonds_fit.Statement.{statement}
 use Rattle.measure.proofs.checks.bonds_fit.Tie as tie

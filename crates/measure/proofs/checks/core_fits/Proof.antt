@@ -3,7 +3,8 @@
 use mathlib.Core.Path.{sym, _∙_}
 use borrow.Author.Tests.{ltb-true, le-ltb, lt-leb}
 use Rattle.wire.specs.Flags.{isOne}
-use Rattle.measure.proofs.Flags.{never, on-the-way, fits, four-joined}
+use Rattle.wire.proofs.Flags.{never}
+use Rattle.measure.proofs.Flags.{on-the-way, fits, four-joined}
 use Rattle.measure.proofs.Due.{code-in}
 use Rattle.measure.proofs.Checked.{top-clear}
 use borrow.Author.Needs.{needs}

@@ -1,8 +1,9 @@
 -- `measure::checks::is_checked` meets its contract: each test says what it found, and a record of which all of that holds passes both lists.
 -- Assumes nothing.
 use mathlib.Core.Path.{sym, _∙_}
+use Rattle.wire.proofs.Flags.{never}
 use Rattle.measure.proofs.Checked.{checked}
-use Rattle.measure.proofs.Flags.{never, on-the-way}
+use Rattle.measure.proofs.Flags.{on-the-way}
 use borrow.Author.Needs.{needs}
 use Rattle.measure.proofs.checks.is_checked.Statement.{statement}
 use Rattle.measure.proofs.checks.is_checked.Tie as tie

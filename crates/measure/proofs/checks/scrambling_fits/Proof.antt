@@ -2,7 +2,8 @@
 -- Assumes nothing.
 use mathlib.Core.Path.{refl, sym, _∙_}
 use borrow.Author.Tests.{le-ltb, lt-leb, eq-eqb, ne-eqb}
-use Rattle.measure.proofs.Flags.{never, fits}
+use Rattle.wire.proofs.Flags.{never}
+use Rattle.measure.proofs.Flags.{fits}
 use Rattle.measure.proofs.checks.scrambling_fits.Statement.{statement}
 use Rattle.measure.proofs.checks.scrambling_fits.Tie as tie
 

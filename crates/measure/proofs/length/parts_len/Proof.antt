@@ -1,10 +1,12 @@
 -- `measure::length::parts_len` meets its contract: the parts are counted as the law of their sizes has it.
 -- Assumes nothing.
 use native.Mathlib.Omega.{arith}
+use Rattle.wire.proofs.Flags.{is-bit}
+use Rattle.s2xv2.proofs.Back.{is-selected}
 use Rattle.s2xv2.proofs.Whole.{parts-size}
 use Rattle.flat_in.specs.Input.{recordIn}
-use Rattle.flat_in.proofs.Back.{is-8, is-selected}
-use Rattle.measure.proofs.Flags.{is-bit, flagged, flagged-block, block-flags}
+use Rattle.flat_in.proofs.Back.{is-8}
+use Rattle.measure.proofs.Flags.{flagged, flagged-block, block-flags}
 use borrow.Author.Needs.{needs}
 use Rattle.measure.proofs.length.parts_len.Statement.{statement}
 use Rattle.measure.proofs.length.parts_len.Tie as tie

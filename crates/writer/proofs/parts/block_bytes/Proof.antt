@@ -2,10 +2,11 @@
 -- Assumes nothing.
 use Rattle.s2xv2.proofs.Lists.{narrow}
 use Rattle.wire.specs.Flags.{isOne}
+use Rattle.wire.proofs.Flags.{bit-is}
 use Rattle.s2xv2.specs.Options.{some8If}
 use Rattle.s2xv2.specs.Encode.{nibbleOf}
 use Rattle.flat_in.proofs.Back.{is-8}
-use Rattle.measure.proofs.Flags.{bit-is, flagged-block}
+use Rattle.measure.proofs.Flags.{flagged-block}
 use Rattle.writer.proofs.Flags.{there-nibble}
 use borrow.Author.Needs.{needs}
 use Rattle.writer.proofs.parts.block_bytes.Statement.{statement}

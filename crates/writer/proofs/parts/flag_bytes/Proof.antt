@@ -2,9 +2,10 @@
 -- Assumes nothing.
 use Rattle.s2xv2.proofs.Lists.{narrow}
 use Rattle.wire.specs.Flags.{isOne}
+use Rattle.wire.proofs.Flags.{bit-is}
 use Rattle.s2xv2.specs.Table144c.{codeOf}
 use Rattle.flat_in.specs.Input.{modeIn}
-use Rattle.measure.proofs.Flags.{bit-is, flagged}
+use Rattle.measure.proofs.Flags.{flagged}
 use Rattle.writer.proofs.Flags.{top-is, top-small}
 use Rattle.measure.proofs.Due.{code-in}
 use borrow.Author.Needs.{needs}
