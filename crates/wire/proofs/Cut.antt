@@ -61,6 +61,9 @@ bytes-be : (n v : ℕ) → Bytes (be n v)
 bytes-be zero v = bytes-nil
 bytes-be (suc n) v = subst Bytes (sym (be-suc n v)) (bytes-cons (v / 256 ^ n % 256) (be n v) (omega arith) (bytes-be n v))
 
+below : (x b : ℕ) → b < x * 256 → b / 256 < x
+below x b h = omega arith
+
 -- two numbers of bytes side by side
 be-append : (m n a b : ℕ) → b < 2 ^ (n * 8) → be (m + n) (a * 2 ^ (n * 8) + b) ≡ be m a ++ be n b
 be-append m zero a b h =
@@ -84,9 +87,6 @@ be-append m (suc n) a b h =
 
     tail₂ : (x b : ℕ) → (x * 256 + b) % 256 ≡ b % 256
     tail₂ x b = omega arith
-
-    below : (x b : ℕ) → b < x * 256 → b / 256 < x
-    below x b h = omega arith
 
 -- ---- the number that bytes make
 
@@ -125,9 +125,6 @@ number-be (suc n) v l h =
     rw e
     (number-suc _ 0 n
     ∙ rw (number-be n (v / 256) (v % 256 ∷ l) (below (2 ^ (n * 8)) v h′), zero-add n, getD-at (be n (v / 256)) (v % 256) l 0 n (length-be n (v / 256))) (omega arith))
-  where
-    below : (x b : ℕ) → b < x * 256 → b / 256 < x
-    below x b h = omega arith
 
 be-number : (s : List ℕ) (a n : ℕ) → Bytes s → a + n ≤ length s → be n (number s a n) ≡ take n (drop a s)
 be-number s a zero b h = refl
