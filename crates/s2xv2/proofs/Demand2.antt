@@ -8,11 +8,12 @@ use mathlib.Core.Bool.{Bool, true, false}
 use Prim.Native.Nat.{ℕ, _+_, _≤_, _<_}
 use native.Mathlib.Omega.{arith}
 use lib.ListN.{length, drop}
+use Rattle.wire.specs.Flags.{when, isOne}
 use Rattle.wire.specs.Bits.{bits}
 use Rattle.wire.specs.Widths.{Bytes}
 use Rattle.wire.specs.Parts.{sizes}
 use Rattle.s2xv2.specs.Table144c.{hasSelector}
-use Rattle.s2xv2.specs.Read.{presentIn, streamEnd, timesliceEnd, superframeAt, bodySize, recordIn, numberOf, readTold, readOf, tailOf, Reading}
+use Rattle.s2xv2.specs.Read.{only, presentIn, streamEnd, timesliceEnd, superframeAt, bodySize, recordIn, numberOf, readTold, readOf, tailOf}
 use Rattle.s2xv2.specs.Encode.{partsOf, encode, encodedLength}
 use Rattle.s2xv2.specs.ListA.{inconsistency}
 use Rattle.s2xv2.specs.ListB.{unwritable}
@@ -22,12 +23,14 @@ use Rattle.s2xv2.specs.Carried.{carried}
 use Rattle.s2xv2.specs.Held.{Held}
 use Rattle.s2xv2.specs.declared.record.S2Xv2SatelliteDeliverySystem.{S2Xv2SatelliteDeliverySystem}
 use Rattle.s2xv2.proofs.Sizes as sizes
+use Rattle.s2xv2.proofs.Sizes.{oneOf, modeBits, blockPlace}
 use Rattle.s2xv2.proofs.Reach.{told-accepted, accepted-reaches}
 use Rattle.s2xv2.proofs.Fields.{core-fields, reserved-1-bit, scrambling-fields, bond-fields, block-fields, reserved-4-nibble}
 use Rattle.s2xv2.proofs.Whole.{encode-length}
 use Rattle.s2xv2.proofs.Round as round
 use Rattle.s2xv2.proofs.Back as back
 use Rattle.s2xv2.proofs.Domain.{read-consistent, read-writable, read-held, read-carried}
+use Rattle.s2xv2.proofs.Ignored.{ignored-length, ignored-answer, ignored-written}
 use Rattle.s2xv2.proofs.Written.{accepted-length, accepted-writable, written-accepted, told-room, told-field, told-written}
 
 -- ---- reading
@@ -36,7 +39,12 @@ use Rattle.s2xv2.proofs.Written.{accepted-length, accepted-writable, wr
 pub accepted-exactly : (s : List ℕ) → length s ≤ 4096 → (numberOf (readTold s) ≡ 0) ↔ (bodySize s ≤ length s)
 accepted-exactly = sizes.accepted-exactly
 
--- .. no longer body is accepted, and these sizes run from 18 to 41.
+-- .. which is 18; 1 more for the stream id under its flag; 3 for the scrambling index in modes 1 and 2 under the selector; 1 for the timeslice in modes 2 and 5; under
+-- channel_bond 1, 5 for one bond and 9 for two; in modes 4 and 5, 8 for the superframe block and 12 with a plan id.
+pub size-dictated : (s : List ℕ) → bodySize s ≡ blockPlace s + only (oneOf 4 5 (modeBits s)) (when (isOne (bits s (blockPlace s + 1) 1 1)) 12 8)
+size-dictated = sizes.size-dictated
+
+-- .. No longer body is accepted, and these sizes run from 18 to 41.
 pub accepted-within : (s : List ℕ) → numberOf (readTold s) ≡ 0 → length s ≤ 4096
 accepted-within = sizes.accepted-within
 
@@ -93,16 +101,13 @@ rewritten s buf y z k =
     let l : encodedLength (readOf s .body) (tailOf s) ≡ length s = sym (encode-length _ _) ∙ ap length e in
     written-accepted (readOf s .body) (tailOf s) buf (length s) (sym (write-read-accepted s y z (length buf) k)) ∙ rw (e, l)
 
--- What the wire does not carry of a record, the writer ignores: without it the record is written as the same bytes.
-pub ignored : (r : S2Xv2SatelliteDeliverySystem) (tail : List ℕ) (room : ℕ) → Held r → Bytes tail → numberOf (writeTold r tail room) ≡ 0
-    → encode (carried r) tail ≡ encode r tail
-ignored r tail room h y z =
-    let w = accepted-writable r tail room z in
-    let p = read-written r tail room h y z in
-    let b = round.encode-bytes r tail (w .consistent) (w .carried) h y (w .within) in
-    let a : numberOf (readTold (encode r tail)) ≡ 0 = ap (λ (x : Reading). numberOf (x .told)) (p .0) in
-    let c : encode (readOf (encode r tail) .body) (tailOf (encode r tail)) ≡ encode r tail = write-read (encode r tail) b a in
-    ap (λ (x : Reading). encode (x .body) tail) (sym (p .0)) ∙ ap (encode (readOf (encode r tail) .body)) (sym (p .1)) ∙ c
+-- What the wire does not carry of a record, the writer ignores: of every record, length and writer answer what they answer for what the wire carries of it, and the
+-- writer leaves the same buffer.
+pub ignored : (r : S2Xv2SatelliteDeliverySystem) (tail buf : List ℕ)
+    → (lengthTold (carried r) tail ≡ lengthTold r tail)
+    × (writeTold (carried r) tail (length buf) ≡ writeTold r tail (length buf))
+    × (written (carried r) tail buf ≡ written r tail buf)
+ignored r tail buf = (ignored-length r tail, ignored-answer r tail (length buf), ignored-written r tail buf)
 
 -- The wire carries all of a record that was read.
 pub carried-read : (s : List ℕ) → carried (recordIn s) ≡ recordIn s

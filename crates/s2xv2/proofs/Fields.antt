@@ -2,7 +2,7 @@
 -- 144b alone, so that the two descriptions hold each other. Reserved bits are among the fields, wherever the wire carries them.
 -- Assumes nothing.
 use mathlib.Core.Path.{_≡_, refl}
-use mathlib.Core.List.{List}
+use mathlib.Core.List.{List, [], _∷_}
 use mathlib.Core.Bool.{Bool, true, false}
 use Prim.Native.Nat.{ℕ, _+_}
 use lib.ListN.{getD}
@@ -10,8 +10,9 @@ use lib.Dec.{eqb}
 use Rattle.wire.specs.Flags.{when, isOne, and}
 use Rattle.wire.specs.Bits.{bits}
 use Rattle.s2xv2.specs.Table144c.{modeOf, codeOf, hasSelector, hasTimeslice, hasSuperframe}
-use Rattle.s2xv2.specs.Read.{presentIn, streamEnd, scramblingEnd, timesliceEnd, superframeAt, recordAt, recordIn}
+use Rattle.s2xv2.specs.Read.{only, presentIn, streamEnd, scramblingEnd, timesliceEnd, bondEnd, bodySize, superframeAt, recordAt, recordIn}
 use Rattle.s2xv2.proofs.Modes.{code-mode}
+use Rattle.s2xv2.specs.declared.superframe.OptionSuperframe.the-variants as OS
 use Rattle.s2xv2.specs.declared.option.OptionBool.the-variants as OB
 use Rattle.s2xv2.specs.declared.option.OptionU8.the-variants as O8
 use Rattle.s2xv2.specs.declared.option.OptionU32.the-variants as O32
@@ -117,3 +118,44 @@ module _ (s : List ℕ) where
   pub plan-field : (p : ℕ) → superframeAt s p true .«beamhopping_time_plan_id» ≡ O32.Some (bits s (p + 7) 0 32)
   unfolding superframeAt
   plan-field p = refl
+
+  -- ---- where the parts stand, and what an absent part reads as
+
+  -- Where each part behind the core ends, in plain numbers: a part that is not there ends where the one before it does.
+  pub ends : (streamEnd (presentIn s) ≡ 18 + only (presentIn s .stream) 1)
+      × (scramblingEnd (presentIn s) ≡ streamEnd (presentIn s) + only (presentIn s .scrambling) 3)
+      × (timesliceEnd (presentIn s) ≡ scramblingEnd (presentIn s) + only (presentIn s .timeslice) 1)
+      × (bondEnd s (presentIn s) ≡ timesliceEnd (presentIn s) + only (presentIn s .bond) (when (isOne (bits s (timesliceEnd (presentIn s)) 7 1)) 9 5))
+      × (bodySize s ≡ bondEnd s (presentIn s) + only (presentIn s .superframe) (when (isOne (bits s (bondEnd s (presentIn s) + 1) 1 1)) 12 8))
+  unfolding bodySize
+  ends = (refl, refl, refl, refl, refl)
+
+  -- The block of the record stands behind the bonds, with a plan id where its hopping selector is set.
+  pub block-there : presentIn s .superframe ≡ true
+      → recordIn s .superframe ≡ OS.Some (superframeAt s (bondEnd s (presentIn s)) (isOne (bits s (bondEnd s (presentIn s) + 1) 1 1)))
+  unfolding recordAt
+  block-there e = simp e
+
+  -- A part that is not there reads as absent, no bonds, and 0 for what is reserved in it and for the ids.
+  pub absent : (presentIn s .stream ≡ false → recordIn s .«input_stream_identifier» ≡ O8.None)
+      × (presentIn s .scrambling ≡ false → (recordIn s .«scrambling_sequence_index» ≡ O32.None) × (recordIn s .«reserved_zero_future_use_6» ≡ 0))
+      × (presentIn s .timeslice ≡ false → recordIn s .«timeslice_number» ≡ O8.None)
+      × (presentIn s .bond ≡ false
+          → (recordIn s .«num_channel_bonds» ≡ 0) × (recordIn s .«reserved_zero_future_use_7» ≡ 0) × (recordIn s .«secondary_delivery_system_ids» ≡ 0 ∷ 0 ∷ []))
+      × (presentIn s .superframe ≡ false → recordIn s .superframe ≡ OS.None)
+  unfolding recordAt
+  absent = (λ e. simp e, λ e. simp e (refl, refl), λ e. simp e, λ e. simp e (refl, refl, refl), λ e. simp e)
+
+  -- A field that shares its place with another reads as absent, or as 0, where the other stands there; so does the second of two ids where there is one.
+  pub absent-field : (hasSelector (recordIn s .«s2xv2_mode») ≡ true → recordIn s .«reserved_zero_future_use_1» ≡ 0)
+      × (hasSelector (recordIn s .«s2xv2_mode») ≡ false → recordIn s .«scrambling_sequence_selector» ≡ OB.None)
+      × (isOne (bits s (timesliceEnd (presentIn s)) 7 1) ≡ false → getD (recordIn s .«secondary_delivery_system_ids») 1 0 ≡ 0)
+      × ((p : ℕ) (plan : Bool) → superframeAt s p plan .«sffi_selector» ≡ true → superframeAt s p plan .«reserved_zero_future_use_4» ≡ 0)
+      × ((p : ℕ) (plan : Bool) → superframeAt s p plan .«sffi_selector» ≡ false → superframeAt s p plan .sffi ≡ O8.None)
+      × ((p : ℕ) → superframeAt s p false .«beamhopping_time_plan_id» ≡ O32.None)
+  unfolding recordAt superframeAt
+  absent-field = (λ e. simp e, λ e. simp e, λ e. go (presentIn s .bond) refl e, λ p plan e. simp e, λ p plan e. simp e, λ p. refl)
+    where
+      go : (t : Bool) → presentIn s .bond ≡ t → isOne (bits s (timesliceEnd (presentIn s)) 7 1) ≡ false → getD (recordIn s .«secondary_delivery_system_ids») 1 0 ≡ 0
+      go true d e = simp (d, e)
+      go false d e = simp d

@@ -10,4 +10,5 @@ pub mod Round
 pub mod Back
 pub mod Domain
 pub mod Written
+pub mod Ignored
 pub mod Demand2
