@@ -8,7 +8,9 @@ use lib.ListN.{length, replicate}
 use lib.Dec.{eqb, ltb}
 use Rattle.wire.specs.Flags.{when}
 use Rattle.s2xv2.specs.declared.record.S2Xv2SatelliteDeliverySystem.{S2Xv2SatelliteDeliverySystem}
-use Rattle.s2xv2.specs.Answer.{told, saturated}
+use Rattle.s2xv2.specs.Answer.{numbers, told, saturated}
+use Rattle.s2xv2.specs.declared.answer.Refusal.the-variants as R
+use Rattle.s2xv2.specs.declared.answer.Answer.the-variants as A
 use Rattle.s2xv2.specs.Read.{numberOf}
 use Rattle.s2xv2.specs.Encode.{encode, encodedLength}
 use Rattle.s2xv2.specs.ListA.{inconsistency}
@@ -50,19 +52,19 @@ pub record Sized (n d : ℕ) (r : S2Xv2SatelliteDeliverySystem) (tail : List ℕ
 
 -- what is told once the descriptor is known to fit a slot of n bytes: 4, else accepted with the number of stores
 unfoldable pub stageTold : ℕ → S2Xv2SatelliteDeliverySystem → List ℕ
-stageTold n r = when (ltb 0 (unwritable r)) (4 ∷ unwritable r ∷ []) (0 ∷ (n + 2) ∷ [])
+stageTold n r = when (ltb 0 (unwritable r)) (numbers (R.Field (unwritable r))) (told (A.Accepted (n + 2)))
 
 -- .. once its length is known: 7 before that
 unfoldable pub fitTold : ℕ → S2Xv2SatelliteDeliverySystem → List ℕ → List ℕ
-fitTold n r tail = when (fitsIn (sizeOf r tail) n) (stageTold n r) (7 ∷ sizeOf r tail ∷ [])
+fitTold n r tail = when (fitsIn (sizeOf r tail) n) (stageTold n r) (numbers (R.NoFit (sizeOf r tail)))
 
 -- 6, 3, 2, 7, 4, in this order, else accepted with the number of stores
 unfoldable pub beginTold : List ℕ → S2Xv2SatelliteDeliverySystem → List ℕ → List ℕ
 beginTold s r tail =
     when (goodForm s)
-    (when (ltb 0 (inconsistency r)) (3 ∷ inconsistency r ∷ [])
-    (when (ltb 4096 (encodedLength r tail)) (2 ∷ saturated (encodedLength r tail) ∷ []) (fitTold (length s) r tail)))
-    (6 ∷ [])
+    (when (ltb 0 (inconsistency r)) (numbers (R.Inconsistent (inconsistency r)))
+    (when (ltb 4096 (encodedLength r tail)) (numbers (R.Long (saturated (encodedLength r tail)))) (fitTold (length s) r tail)))
+    (numbers R.Slot)
 
 -- the answer in numbers, and the job
 pub record Begins : Type 0 where

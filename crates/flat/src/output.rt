@@ -45,7 +45,6 @@ pub fn refusal_out(why: Refusal) -> FlatAnswer
         Refusal::Room { need, have } => answer_of(5, need, have, 0),
         Refusal::Slot => answer_of(6, 0, 0, 0),
         Refusal::NoFit { size } => answer_of(7, size, 0, 0),
-        Refusal::OtherSize => answer_of(8, 0, 0, 0),
     }
 }
 

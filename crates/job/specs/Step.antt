@@ -37,10 +37,10 @@ stepCount j allowance = min allowance (left j)
 
 -- WHAT A STEP ANSWERS, lent a slot of n bytes
 abbrev pub accepts : Job → ℕ → Steps
-accepts j k = record { told = 0 ∷ []; made = k; done = eqb k (left j); job = advanced j k }
+accepts j k = record { told = stepTold Accepted; made = k; done = eqb k (left j); job = advanced j k }
 
 abbrev pub refuses : Job → Steps
-refuses j = record { told = 8 ∷ []; made = 0; done = false; job = j }
+refuses j = record { told = stepTold OtherSize; made = 0; done = false; job = j }
 
 unfoldable pub stepOf : Job → ℕ → ℕ → Steps
 stepOf j n allowance = when (fair j n) (accepts j (stepCount j allowance)) (refuses j)

@@ -18,7 +18,6 @@ fn refusal(why: Refusal) -> [u32; 5] {
         Refusal::Room { need, have } => [3, 5, low(need), low(have), 0],
         Refusal::Slot => [1, 6, 0, 0, 0],
         Refusal::NoFit { size } => [2, 7, low(size), 0, 0],
-        Refusal::OtherSize => [1, 8, 0, 0, 0],
     }
 }
 

@@ -21,7 +21,7 @@ refusalOf l = go (getD l 0 0) (getD l 1 0) (getD l 2 0) (getD l 3 0)
         (when (eqb n 2) (R.Long x)
         (when (eqb n 3) (R.Inconsistent x)
         (when (eqb n 4) (R.Field x)
-        (when (eqb n 5) (R.Room x y) (when (eqb n 6) R.Slot (when (eqb n 7) (R.NoFit x) R.OtherSize))))))
+        (when (eqb n 5) (R.Room x y) (when (eqb n 6) R.Slot (R.NoFit x))))))
 
 pub refusal-back : (why : Refusal) → refusalOf (numbers why) ≡ why
 unfolding refusalOf
@@ -32,7 +32,6 @@ refusal-back (R.Field place) = refl
 refusal-back (R.Room need have) = refl
 refusal-back R.Slot = refl
 refusal-back (R.NoFit size) = refl
-refusal-back R.OtherSize = refl
 
 answerOf : List ℕ → Answer
 answerOf l = when (eqb (getD l 0 0) 0) (A.Accepted (getD l 1 0)) (A.Refused (refusalOf l))
@@ -47,7 +46,6 @@ answer-back (A.Refused (R.Field place)) = refl
 answer-back (A.Refused (R.Room need have)) = refl
 answer-back (A.Refused R.Slot) = refl
 answer-back (A.Refused (R.NoFit size)) = refl
-answer-back (A.Refused R.OtherSize) = refl
 
 -- Two answers with the same numbers are equal.
 pub same-told : (a b : Answer) → told a ≡ told b → a ≡ b

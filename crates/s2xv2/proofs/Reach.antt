@@ -64,7 +64,6 @@ refused-number (R.Field place) = refl
 refused-number (R.Room need have) = refl
 refused-number R.Slot = refl
 refused-number (R.NoFit size) = refl
-refused-number R.OtherSize = refl
 
 pub refused : (why : Refusal) → numberOf (numbers why) ≡ 0 → ⊥
 refused why e = let z : false ≡ true = sym (refused-number why) ∙ eq-eqb _ 0 e in let k : _≡_ {A = ℕ} 0 1 = cc in omega arith

@@ -1,5 +1,5 @@
--- The numbers that a caller may see (document 01): `numbers` of a refusal and `told` of an answer, the answer's own number first and
--- then what it tells. `saturated` is a length as answer 2 tells it. Assumes nothing.
+-- The numbers that a caller may see (document 01), the answer's own number first and then what it tells: `numbers` of a refusal, `told` of an answer. No
+-- other definition gives a refusal's number, but `stepTold` of `job` for 8. `saturated` is a length as answer 2 tells it. Assumes nothing.
 use Prim.Native.Nat.{ℕ}
 use mathlib.Core.List.{List, [], _∷_}
 use lib.Dec.{ltb}
@@ -17,7 +17,6 @@ numbers (R.Field place) = 4 ∷ place ∷ []
 numbers (R.Room need have) = 5 ∷ need ∷ have ∷ []
 numbers R.Slot = 6 ∷ []
 numbers (R.NoFit size) = 7 ∷ size ∷ []
-numbers R.OtherSize = 8 ∷ []
 
 abbrev pub told : Answer → List ℕ
 told (A.Accepted result) = 0 ∷ result ∷ []

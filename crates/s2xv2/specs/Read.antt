@@ -21,7 +21,9 @@ use Rattle.s2xv2.specs.Table144b as T
 use Rattle.s2xv2.specs.Table144c.{modeOf, hasSelector, hasTimeslice, hasSuperframe}
 use Rattle.s2xv2.specs.Default.{defaultRecord}
 use Rattle.s2xv2.specs.Options.{someBoolIf, some8If, some32If, someSuperframeIf}
-use Rattle.s2xv2.specs.Answer.{saturated}
+use Rattle.s2xv2.specs.Answer.{numbers, told, saturated}
+use Rattle.s2xv2.specs.declared.answer.Refusal.the-variants as R
+use Rattle.s2xv2.specs.declared.answer.Answer.the-variants as A
 use Rattle.s2xv2.specs.declared.record.S2Xv2SatelliteDeliverySystem.{S2Xv2SatelliteDeliverySystem}
 use Rattle.s2xv2.specs.declared.superframe.S2Xv2Superframe.{S2Xv2Superframe}
 use Rattle.s2xv2.specs.declared.superframe.OptionSuperframe.{OptionSuperframe}
@@ -244,12 +246,13 @@ numberOf told = getD told 0 0
 -- for a body of `have` bytes: answer 1 at the first part whose end it does not reach, and `otherwise` if there is none
 abbrev pub shortTold : ℕ → List Need → List ℕ → List ℕ
 shortTold have [] otherwise = otherwise
-shortTold have (n ∷ ns) otherwise = when (ltb have (n .need)) (1 ∷ n .place ∷ n .need ∷ have ∷ []) (shortTold have ns otherwise)
+shortTold have (n ∷ ns) otherwise = when (ltb have (n .need)) (numbers (R.Short (n .place) (n .need) have)) (shortTold have ns otherwise)
 
 -- 2, then 1 in wire order, then accepted: the tail starts where the last part ends
 unfoldable pub readTold : List ℕ → List ℕ
 readTold s =
-    when (ltb 4096 (length s)) (2 ∷ saturated (length s) ∷ []) (shortTold (length s) (needs s (presentIn s)) (0 ∷ bodySize s ∷ []))
+    when (ltb 4096 (length s)) (numbers (R.Long (saturated (length s))))
+    (shortTold (length s) (needs s (presentIn s)) (told (A.Accepted (bodySize s))))
 
 -- what the reader answers: the numbers told, and the record shown
 pub record Reading : Type 0 where

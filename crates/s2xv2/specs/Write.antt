@@ -1,11 +1,13 @@
 -- What the writer answers and leaves: `writeTold` for a record, a tail and a buffer of so many bytes; `written` is the buffer afterwards.
 -- Assumes nothing.
 use Prim.Native.Nat.{ℕ}
-use mathlib.Core.List.{List, [], _∷_, _++_}
+use mathlib.Core.List.{List, _++_}
 use lib.ListN.{length, drop}
 use lib.Dec.{eqb, ltb}
 use Rattle.wire.specs.Flags.{when}
-use Rattle.s2xv2.specs.Answer.{saturated}
+use Rattle.s2xv2.specs.Answer.{numbers, told, saturated}
+use Rattle.s2xv2.specs.declared.answer.Refusal.the-variants as R
+use Rattle.s2xv2.specs.declared.answer.Answer.the-variants as A
 use Rattle.s2xv2.specs.Read.{numberOf}
 use Rattle.s2xv2.specs.Encode.{encode, encodedLength}
 use Rattle.s2xv2.specs.ListA.{inconsistency}
@@ -15,10 +17,10 @@ use Rattle.s2xv2.specs.declared.record.S2Xv2SatelliteDeliverySystem.{S2X
 -- 3, 2, 5, 4, in this order, else accepted with the length
 unfoldable pub writeTold : S2Xv2SatelliteDeliverySystem → List ℕ → ℕ → List ℕ
 writeTold r tail room =
-    when (ltb 0 (inconsistency r)) (3 ∷ inconsistency r ∷ [])
-    (when (ltb 4096 (encodedLength r tail)) (2 ∷ saturated (encodedLength r tail) ∷ [])
-    (when (ltb room (encodedLength r tail)) (5 ∷ encodedLength r tail ∷ room ∷ [])
-    (when (ltb 0 (unwritable r)) (4 ∷ unwritable r ∷ []) (0 ∷ encodedLength r tail ∷ []))))
+    when (ltb 0 (inconsistency r)) (numbers (R.Inconsistent (inconsistency r)))
+    (when (ltb 4096 (encodedLength r tail)) (numbers (R.Long (saturated (encodedLength r tail))))
+    (when (ltb room (encodedLength r tail)) (numbers (R.Room (encodedLength r tail) room))
+    (when (ltb 0 (unwritable r)) (numbers (R.Field (unwritable r))) (told (A.Accepted (encodedLength r tail))))))
 
 -- the encoding and then the old bytes if the record is accepted, and the old bytes alone if it is refused
 unfoldable pub written : S2Xv2SatelliteDeliverySystem → List ℕ → List ℕ → List ℕ

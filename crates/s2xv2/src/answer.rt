@@ -2,7 +2,7 @@
 ghost use mathlib.Core.Path.{_≡_};
 ghost use Rattle.s2xv2.specs.Answer.{saturated};
 
-// Why a call was refused.
+// Why a call was refused: answers 1 to 7. A step has an answer of its own, which has number 8.
 pub enum Refusal {
     // The body ends inside a part: which one, where that part ends, and how long the body is.
     Short { place: u8, need: usize, have: usize },
@@ -18,8 +18,6 @@ pub enum Refusal {
     Slot,
     // A descriptor that is larger than the slot, or exactly one byte smaller: its size.
     NoFit { size: usize },
-    // A step on a slot of another size than at begin, or of a job whose numbers no begin and steps could give.
-    OtherSize,
 }
 
 // The answer of a call whose result is a number: where the tail starts, or a length.

@@ -33,7 +33,6 @@ answer-back (A.Refused (R.Field place)) = ap A.Refused (refusal-back (R.Field pl
 answer-back (A.Refused (R.Room need have)) = ap A.Refused (refusal-back (R.Room need have))
 answer-back (A.Refused R.Slot) = ap A.Refused (refusal-back R.Slot)
 answer-back (A.Refused (R.NoFit size)) = ap A.Refused (refusal-back (R.NoFit size))
-answer-back (A.Refused R.OtherSize) = ap A.Refused (refusal-back R.OtherSize)
 
 -- Two answers with the same numbers are equal.
 pub same-slot-told : (a b : SlotAnswer) → slotTold a ≡ slotTold b → a ≡ b

@@ -41,7 +41,6 @@ placed-refused size (R.Field place) = refl
 placed-refused size (R.Room need have) = refl
 placed-refused size R.Slot = refl
 placed-refused size (R.NoFit d) = refl
-placed-refused size R.OtherSize = refl
 
 -- ---- a slot that holds a body
 module _ (s b : List ℕ) (p : Parsed) (f : goodForm s ≡ true) (t : byteAt s 0 ≡ stuffingTag → ⊥) (e : b ≡ bodyIn s) where

@@ -1,14 +1,18 @@
 -- The empty call: `emptyTold` is its answer for a slot of n bytes, `emptied` the slot afterwards. Assumes nothing.
 use Prim.Native.Nat.{ℕ}
-use mathlib.Core.List.{List, [], _∷_}
+use mathlib.Core.List.{List}
 use lib.ListN.{length}
 use Rattle.wire.specs.Flags.{when}
+use Rattle.s2xv2.specs.Answer.{numbers}
+use Rattle.s2xv2.specs.declared.answer.Refusal.the-variants as R
+use Rattle.slot.specs.Answer.{slotTold}
+use Rattle.slot.specs.declared.answer.SlotAnswer.the-variants as A
 use Rattle.form.specs.Envelope.{stuffing}
 use Rattle.form.specs.Form.{goodSize}
 
 -- refused with 6 for a wrong n, and for nothing else
 unfoldable pub emptyTold : ℕ → List ℕ
-emptyTold n = when (goodSize n) (0 ∷ []) (6 ∷ [])
+emptyTold n = when (goodSize n) (slotTold A.Empty) (numbers R.Slot)
 
 -- 0x42, n - 2, then 0xFF, whatever stood there; a refused slot keeps its bytes
 unfoldable pub emptied : List ℕ → List ℕ

@@ -3,13 +3,17 @@
 use Prim.Native.Nat.{ℕ, _+_, _-_}
 use mathlib.Core.Path.{_≡_}
 use mathlib.Core.Bool.{true}
-use mathlib.Core.List.{List, [], _∷_}
+use mathlib.Core.List.{List, []}
 use lib.ListN.{length, getD}
 use lib.Dec.{eqb}
 use Rattle.wire.specs.Flags.{when}
+use Rattle.s2xv2.specs.Answer.{numbers}
+use Rattle.s2xv2.specs.declared.answer.Refusal.the-variants as R
 use Rattle.s2xv2.specs.Default.{defaultRecord}
 use Rattle.s2xv2.specs.Read.{Reading, numberOf, readOf, tailOf}
 use Rattle.form.specs.Envelope.{stuffingTag, envelopeSize}
+use Rattle.slot.specs.Answer.{slotTold}
+use Rattle.slot.specs.declared.answer.SlotAnswer.the-variants as A
 use Rattle.form.specs.Form.{byteAt, bodyIn, goodForm}
 
 -- the answer in numbers, the record, and the tail
@@ -22,14 +26,14 @@ abbrev pub without : List ℕ → Shown
 without told = record { reading = record { told = told; body = defaultRecord }; tail = [] }
 
 abbrev pub showsNone : Shown
-showsNone = without (6 ∷ [])
+showsNone = without (numbers R.Slot)
 
 abbrev pub showsEmpty : Shown
-showsEmpty = without (0 ∷ [])
+showsEmpty = without (slotTold A.Empty)
 
 -- the reader's numbers for a body of so many bytes, where an accepted body's tail has its place from the slot's start, and its length
 abbrev pub placed : ℕ → List ℕ → List ℕ
-placed size told = when (eqb (numberOf told) 0) (0 ∷ (getD told 1 0 + envelopeSize) ∷ (size - getD told 1 0) ∷ []) told
+placed size told = when (eqb (numberOf told) 0) (slotTold (A.Accepted (getD told 1 0 + envelopeSize) (size - getD told 1 0))) told
 
 unfoldable pub showsBody : List ℕ → Shown
 showsBody body = record { reading = record { told = placed (length body) (readOf body .told); body = readOf body .body }; tail = tailOf body }

@@ -30,7 +30,6 @@ fn numbers(out: &mut [u8], at: usize, why: Refusal) -> usize
         Refusal::Room { need, have } => words(out, at, &[5, need as u64, have as u64]),
         Refusal::Slot => words(out, at, &[6]),
         Refusal::NoFit { size } => words(out, at, &[7, size as u64]),
-        Refusal::OtherSize => words(out, at, &[8]),
     }
 }
 

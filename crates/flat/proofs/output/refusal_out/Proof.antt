@@ -67,12 +67,6 @@ enum-known-why-6 c = search needs
 answer-of-requires-7 : tie.Need-answer-of-requires-7
 answer-of-requires-7 c κs = search needs
 
-enum-told-2 : tie.Need-enum-told-2
-enum-told-2 c = search needs
-
-answer-of-requires-8 : tie.Need-answer-of-requires-8
-answer-of-requires-8 c κs = search needs
-
 returns : tie.Need-returns
 returns c = told-by (c .before .before .why .given .1) (c .answer-of .ensures)
 
@@ -93,9 +87,6 @@ returns-6 c = told-by (c .before .enum-told .given .1) (c .answer-of6 .ensures)
 
 returns-7 : tie.Need-returns-7
 returns-7 c = told-by (c .before .before .why6 .given .1) (c .answer-of7 .ensures)
-
-returns-8 : tie.Need-returns-8
-returns-8 c = told-by (c .before .enum-told2 .given .1) (c .answer-of8 .ensures)
 
 pub refusal-out-spec : {M : Type 1} → statement M
 refusal-out-spec =
@@ -119,13 +110,10 @@ refusal-out-spec =
     answer-of-requires-6
     enum-known-why-6
     answer-of-requires-7
-    enum-told-2
-    answer-of-requires-8
     returns
     returns-2
     returns-3
     returns-4
     returns-5
     returns-6
-    returns-7
-    returns-8)
+    returns-7)

@@ -7,8 +7,8 @@ use Rattle.text.proofs.body.numbers.Tie as tie
 enum-known-why : tie.Need-enum-known-why
 enum-known-why c = search needs
 
-cast-t19 : tie.Need-cast-t19
-cast-t19 c = search needs
+cast-t18 : tie.Need-cast-t18
+cast-t18 c = search needs
 
 slice-aggregate-words : tie.Need-slice-aggregate-words
 slice-aggregate-words c = search needs
@@ -19,8 +19,8 @@ words-requires c κs = search needs
 enum-known-why-2 : tie.Need-enum-known-why-2
 enum-known-why-2 c = search needs
 
-cast-t27 : tie.Need-cast-t27
-cast-t27 c = search needs
+cast-t26 : tie.Need-cast-t26
+cast-t26 c = search needs
 
 slice-aggregate-words-2 : tie.Need-slice-aggregate-words-2
 slice-aggregate-words-2 c = search needs
@@ -31,8 +31,8 @@ words-requires-2 c κs = search needs
 enum-known-why-3 : tie.Need-enum-known-why-3
 enum-known-why-3 c = search needs
 
-cast-t33 : tie.Need-cast-t33
-cast-t33 c = search needs
+cast-t32 : tie.Need-cast-t32
+cast-t32 c = search needs
 
 slice-aggregate-words-3 : tie.Need-slice-aggregate-words-3
 slice-aggregate-words-3 c = search needs
@@ -43,8 +43,8 @@ words-requires-3 c κs = search needs
 enum-known-why-4 : tie.Need-enum-known-why-4
 enum-known-why-4 c = search needs
 
-cast-t39 : tie.Need-cast-t39
-cast-t39 c = search needs
+cast-t38 : tie.Need-cast-t38
+cast-t38 c = search needs
 
 slice-aggregate-words-4 : tie.Need-slice-aggregate-words-4
 slice-aggregate-words-4 c = search needs
@@ -78,15 +78,6 @@ slice-aggregate-words-7 c = search needs
 
 words-requires-7 : tie.Need-words-requires-7
 words-requires-7 c κs = search needs
-
-enum-told-2 : tie.Need-enum-told-2
-enum-told-2 c = search needs
-
-slice-aggregate-words-8 : tie.Need-slice-aggregate-words-8
-slice-aggregate-words-8 c = search needs
-
-words-requires-8 : tie.Need-words-requires-8
-words-requires-8 c κs = search needs
 
 same-length : tie.Need-same-length
 same-length c = search needs
@@ -130,30 +121,24 @@ same-length-7 c = search needs
 returns-7 : tie.Need-returns-7
 returns-7 c = rw (c .before .before .before .before .before .before .why6 .given .1) (c .before .before .words7 .ensures)
 
-same-length-8 : tie.Need-same-length-8
-same-length-8 c = search needs
-
-returns-8 : tie.Need-returns-8
-returns-8 c = rw (c .before .before .before .before .before .enum-told2 .given .1) (c .before .before .words8 .ensures)
-
 pub numbers-spec : {M : Type 1} → statement M
 numbers-spec =
     tie.close
     (tie.spec
     enum-known-why
-    cast-t19
+    cast-t18
     slice-aggregate-words
     words-requires
     enum-known-why-2
-    cast-t27
+    cast-t26
     slice-aggregate-words-2
     words-requires-2
     enum-known-why-3
-    cast-t33
+    cast-t32
     slice-aggregate-words-3
     words-requires-3
     enum-known-why-4
-    cast-t39
+    cast-t38
     slice-aggregate-words-4
     words-requires-4
     enum-known-why-5
@@ -165,9 +150,6 @@ numbers-spec =
     enum-known-why-6
     slice-aggregate-words-7
     words-requires-7
-    enum-told-2
-    slice-aggregate-words-8
-    words-requires-8
     same-length
     returns
     same-length-2
@@ -181,6 +163,4 @@ numbers-spec =
     same-length-6
     returns-6
     same-length-7
-    returns-7
-    same-length-8
-    returns-8)
+    returns-7)
