@@ -61,10 +61,16 @@ module _ (s : List ℕ) (r : S2Xv2SatelliteDeliverySystem) (tail : List ℕ) whe
   abbrev told₃ : List ℕ
   told₃ = when (ltb 0 (inconsistency r)) (3 ∷ inconsistency r ∷ []) told₂
 
-  -- Where begin accepts a record, with what the types say of it and of its tail, demand 3 speaks.
-  pub ready : Held r → Bytes tail → numberOf (beginTold s r tail) ≡ 0 → Ready s r tail
+  -- what is so where begin accepts
+  pub record Accepted : Type 0 where
+    pub form : goodForm s ≡ true
+    pub consistent : inconsistency r ≡ 0
+    pub writable : unwritable r ≡ 0
+    pub fits : fitsIn (sizeOf r tail) (length s) ≡ true
+
+  pub accepted : numberOf (beginTold s r tail) ≡ 0 → Accepted
   unfolding beginTold fitTold stageTold
-  ready h b e =
+  accepted e =
       let a₆ = zero-then (goodForm s) told₃ (6 ∷ []) e (λ (z : _≡_ {A = ℕ} 6 0). omega arith) in
       let a₃ = zero-else (ltb 0 (inconsistency r)) (3 ∷ inconsistency r ∷ []) told₂ (a₆ .1) (λ (z : _≡_ {A = ℕ} 3 0). omega arith) in
       let a₂ = zero-else (ltb 4096 (encodedLength r tail)) (2 ∷ saturated (encodedLength r tail) ∷ []) told₇ (a₃ .1) (λ (z : _≡_ {A = ℕ} 2 0). omega arith) in
@@ -72,7 +78,13 @@ module _ (s : List ℕ) (r : S2Xv2SatelliteDeliverySystem) (tail : List ℕ) whe
       let a₄ = zero-else (ltb 0 (unwritable r)) (4 ∷ unwritable r ∷ []) (0 ∷ (length s + 2) ∷ []) (a₇ .1) (λ (z : _≡_ {A = ℕ} 4 0). omega arith) in
       let i : inconsistency r ≤ 0 = ltb-false 0 (inconsistency r) (a₃ .0) in
       let w : unwritable r ≤ 0 = ltb-false 0 (unwritable r) (a₄ .0) in
-      record { form = a₆ .0; consistent = omega arith; writable = omega arith; fits = a₇ .0; held = h; bytes = b }
+      record { form = a₆ .0; consistent = omega arith; writable = omega arith; fits = a₇ .0 }
+
+  -- Where begin accepts a record, with what the types say of it and of its tail, demand 3 speaks.
+  pub ready : Held r → Bytes tail → numberOf (beginTold s r tail) ≡ 0 → Ready s r tail
+  ready h b e =
+      let a = accepted e in
+      record { form = a .form; consistent = a .consistent; writable = a .writable; fits = a .fits; held = h; bytes = b }
 
   -- Where the writer accepts a record with its tail, whatever the room, the slot is in good form and the descriptor fits, demand 3 speaks.
   pub writer-ready : Held r → Bytes tail → goodForm s ≡ true → fitsIn (sizeOf r tail) (length s) ≡ true → (room : ℕ) → numberOf (writeTold r tail room) ≡ 0 → Ready s r tail

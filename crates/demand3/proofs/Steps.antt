@@ -42,6 +42,10 @@ module _ (j : Job) (s : List ℕ) (size : length s ≡ j .«slot_size») (fresh 
       (ap {B = Going} (λ (t : List ℕ). record { job = withMade j (k + min a (j .«slot_size» + 2 - k)); slot = t }) (run-add (todo j) k (min a (j .«slot_size» + 2 - k)) s))
 
   -- .. and what it tells
+  pub tells-accepted : (k a : ℕ) → k ≤ j .«slot_size» + 2 → stepOf (withMade j k) (length (run (take k (todo j)) s)) a .told ≡ 0 ∷ []
+  unfolding stepOf
+  tells-accepted k a h = rw (still k h)
+
   pub tells-stores : (k a : ℕ) → k ≤ j .«slot_size» + 2 → stepOf (withMade j k) (length (run (take k (todo j)) s)) a .made ≡ min a (j .«slot_size» + 2 - k)
   unfolding stepOf
   tells-stores k a h = rw (still k h)
@@ -109,7 +113,10 @@ module _ {s : List ℕ} {r : S2Xv2SatelliteDeliverySystem} {tail : List ℕ} (R 
   pub demand3-steps : (more : List ℕ) → ReadsAs (stepping (begun s r tail) more .slot) (due s r tail (min (sum more) (length s + 2)))
   demand3-steps more = rw (after-steps more) (demand3 R (min (sum more) (length s + 2)))
 
-  -- A further step with allowance a tells the smaller of a and the stores left, and done exactly if none is left then.
+  -- A further step with allowance a is accepted, and tells the smaller of a and the stores left, and done exactly if none is left then.
+  pub next-accepted : (more : List ℕ) (a : ℕ) → let g = stepping (begun s r tail) more in stepOf (g .job) (length (g .slot)) a .told ≡ 0 ∷ []
+  next-accepted more a = rw (reach-it more) (tells-accepted its-job s refl fresh (min (sum more) (length s + 2)) a (omega arith))
+
   pub next-stores : (more : List ℕ) (a : ℕ)
       → let g = stepping (begun s r tail) more in stepOf (g .job) (length (g .slot)) a .made ≡ min a (length s + 2 - min (sum more) (length s + 2))
   next-stores more a = rw (reach-it more) (tells-stores its-job s refl fresh (min (sum more) (length s + 2)) a (omega arith))

@@ -1,11 +1,18 @@
--- A job and its slot under steps: `Going` is both, `begun` where begin leaves them, `step` takes them one step on, `stepping` through steps with given allowances, as the contract of step says; `sum` adds the
--- allowances, and `AllPositive` says that each is at least 1. Assumes nothing.
+-- A job and its slot under steps, as the contracts of begin and step say. Assumes nothing.
+-- `Going`        a job and its slot
+-- `begun`        where begin leaves them
+-- `step`         one step on, and `stepping` through steps with given allowances
+-- `sum`          of the allowances; `AllPositive`: each is at least 1
+-- `Stopped`      a job that was begun, stepped some times and dropped; `Typed`: what the types say of it, `AllTyped` of several
+-- `leaves`       the slot that it leaves, and `interrupted` the one that several leave
 use Prim.Native.Nat.{ℕ, _+_, _≤_}
 use mathlib.Core.List.{List, [], _∷_}
 use lib.ListN.{length}
+use Rattle.wire.specs.Widths.{Bytes}
 use Rattle.job.specs.declared.job.Job.{Job}
 use Rattle.job.specs.Step.{stepOf, slotAfter}
 use Rattle.begin.specs.Begin.{beginOf}
+use Rattle.s2xv2.specs.Held.{Held}
 use Rattle.s2xv2.specs.declared.record.S2Xv2SatelliteDeliverySystem.{S2Xv2SatelliteDeliverySystem}
 
 pub record Going : Type 0 where
@@ -31,3 +38,24 @@ sum (a ∷ more) = a + sum more
 abbrev pub AllPositive : List ℕ → Type 0
 AllPositive [] = Unit {0}
 AllPositive (a ∷ more) = (1 ≤ a) × AllPositive more
+
+-- the record and the tail that it was begun with, and the allowances of its steps
+pub record Stopped : Type 0 where
+  pub body : S2Xv2SatelliteDeliverySystem
+  pub tail : List ℕ
+  pub steps : List ℕ
+
+abbrev pub Typed : Stopped → Type 0
+Typed x = Held (x .body) × Bytes (x .tail)
+
+abbrev pub AllTyped : List Stopped → Type 0
+AllTyped [] = Unit {0}
+AllTyped (x ∷ xs) = Typed x × AllTyped xs
+
+-- each is begun where the one before it was stopped; one that begin refuses is stepped all the same
+abbrev pub leaves : List ℕ → Stopped → List ℕ
+leaves s x = stepping (begun s (x .body) (x .tail)) (x .steps) .slot
+
+unfoldable pub interrupted : List ℕ → List Stopped → List ℕ
+interrupted s [] = s
+interrupted s (x ∷ xs) = interrupted (leaves s x) xs

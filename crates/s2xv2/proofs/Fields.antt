@@ -141,7 +141,7 @@ module _ (s : List ℕ) where
       × (presentIn s .scrambling ≡ false → (recordIn s .«scrambling_sequence_index» ≡ O32.None) × (recordIn s .«reserved_zero_future_use_6» ≡ 0))
       × (presentIn s .timeslice ≡ false → recordIn s .«timeslice_number» ≡ O8.None)
       × (presentIn s .bond ≡ false
-          → (recordIn s .«num_channel_bonds» ≡ 0) × (recordIn s .«reserved_zero_future_use_7» ≡ 0) × (recordIn s .«secondary_delivery_system_ids» ≡ 0 ∷ 0 ∷ []))
+      → (recordIn s .«num_channel_bonds» ≡ 0) × (recordIn s .«reserved_zero_future_use_7» ≡ 0) × (recordIn s .«secondary_delivery_system_ids» ≡ 0 ∷ 0 ∷ []))
       × (presentIn s .superframe ≡ false → recordIn s .superframe ≡ OS.None)
   unfolding recordAt
   absent = (λ e. simp e, λ e. simp e (refl, refl), λ e. simp e, λ e. simp e (refl, refl, refl), λ e. simp e)

@@ -1,5 +1,6 @@
 -- What the types of a record's fields say of it: `Held`, for each field whose type is as wide as its place on the wire; `HeldBlock` is
--- that of a superframe block, `HeldSuperframe` of one that may be absent. Every record that a program can make is held. Assumes nothing.
+-- that of a superframe block, `HeldSuperframe` of one that may be absent. Every record that a program can hold is held: `typed::is_held` gives
+-- it for any record. Assumes nothing.
 use Prim.Native.Nat.{_^_, _<_}
 use lib.ListN.{getD}
 use Rattle.s2xv2.specs.Options.{orZero8, orZero32}

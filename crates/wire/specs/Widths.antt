@@ -75,6 +75,6 @@ Fit [] (v ∷ vs) = ⊥
 Fit (w ∷ ws) [] = ⊥
 Fit (w ∷ ws) (v ∷ vs) = (v < 2 ^ w) × Fit ws vs
 
--- every element is a byte, as a slice of u8 always has it
+-- every element is a byte, as a slice of u8 always has it: `typed::are_bytes` gives it for any slice
 abbrev pub Bytes : List ℕ → Type 0
 Bytes s = (i : ℕ) → getD s i 0 < 256
