@@ -1,3 +1,4 @@
 pub mod Laws
 pub mod Length
 pub mod Value
+pub mod Equal

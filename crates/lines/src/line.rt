@@ -14,7 +14,7 @@ fn bit(b: bool) -> u64
     if b { 1 } else { 0 }
 }
 
-// A name, a space, a number, a newline.
+// A name, a space, a number, a newline. Of a number from 10^10 on only the last ten digits are put.
 pub fn line(out: &mut [u8], at: usize, name: &[u8], value: u64) -> usize
     ensures { λ r. ⌜ Wrote (now (out .entry) from at) (lineOf (now (name .entry)) value) (now (out .exit) from r) ⌝ }
 {
@@ -53,7 +53,7 @@ fn word(out: &mut [u8], at: usize, n: u64) -> usize
     decimal(out, at, n)
 }
 
-// Some numbers, one after the other.
+// Some numbers, one after the other, a space before each. Of a number from 10^10 on only the last ten digits are put.
 pub fn words(out: &mut [u8], at: usize, numbers: &[u64]) -> usize
     ensures { λ r. ⌜ Wrote (now (out .entry) from at) (wordsOf (now (numbers .entry))) (now (out .exit) from r) ⌝ }
 {

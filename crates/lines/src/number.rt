@@ -26,7 +26,7 @@ fn three(out: &mut [u8], at: usize, n: u64, a: u64, b: u64, c: u64) -> usize
     digit(out, at, n, c)
 }
 
-// All digits, of which there are ten at most.
+// All digits of a number below 10^10, and of a larger one the last ten.
 pub(crate) fn decimal(out: &mut [u8], at: usize, n: u64) -> usize
     ensures { λ r. ⌜ Wrote (now (out .entry) from at) (decimalOf n) (now (out .exit) from r) ⌝ }
 {
