@@ -42,23 +42,3 @@ stuffing-fill m (suc zero) l h = absurd (not-suc-le-zero (le-of-suc-le-suc l))
 stuffing-fill zero (suc (suc i)) l h = absurd (not-suc-le-zero h)
 stuffing-fill (suc zero) (suc (suc i)) l h = absurd (not-suc-le-zero (le-of-suc-le-suc h))
 stuffing-fill (suc (suc m)) (suc (suc i)) l h = getD-replicate m i filler 0 (le-of-suc-le-suc (le-of-suc-le-suc h))
-
--- ---- a slot over which the first i bytes of a stuffing descriptor are laid, as a loop lays them
-module _ (s : List ℕ) (n : ℕ) (full : length s ≡ n) where
-  long : length (stuffing n) ≡ n
-  long = stuffing-length n
-
-  pub over-length : (i : ℕ) → i ≤ n → length (paste s 0 (stuffing n) i) ≡ n
-  over-length i h = length-paste s 0 (stuffing n) i (omega (arith, full)) (rw long h) ∙ full
-
-  pub over-more : (i : ℕ) → i < n → set (paste s 0 (stuffing n) i) i (getD (stuffing n) i 0) ≡ paste s 0 (stuffing n) (i + 1)
-  over-more i h =
-      ap (λ (k : ℕ). set (paste s 0 (stuffing n) i) k (getD (stuffing n) i 0)) (sym (zero-add i))
-      ∙ paste-suc s 0 (stuffing n) i 0 (omega (arith, full)) (rw long h)
-      ∙ ap (paste s 0 (stuffing n)) (sym (add-one i))
-
-  pub over-all : (i : ℕ) → i ≡ n → paste s 0 (stuffing n) i ≡ stuffing n
-  over-all i e =
-      let d : drop (0 + i) s ≡ [] = drop-of-length-le s {i = 0 + i} (omega (arith, full)) in
-      let t : take i (stuffing n) ≡ stuffing n = take-all i (stuffing n) (rw long (omega arith)) in
-      rw (d, t) (append-nil (stuffing n))

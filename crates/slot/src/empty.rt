@@ -1,8 +1,7 @@
 // Making a slot empty. A cut inside this call is not covered: it is for a slot that is not yet in use.
 ghost use mathlib.Core.Path.{_≡_};
-ghost use Prim.Native.Nat.{_<_, _≤_};
-ghost use lib.ListN.{length, getD};
-ghost use Rattle.form.specs.Envelope.{stuffing};
+ghost use lib.ListN.{length, replicate};
+ghost use Rattle.form.specs.Envelope.{filler};
 ghost use Rattle.slot.specs.Answer.{slotTold};
 ghost use Rattle.slot.specs.Empty.{emptyTold, emptied};
 use crate::answer::SlotAnswer;
@@ -11,28 +10,13 @@ use form::envelope::STUFFING_TAG;
 use form::good::is_size;
 use s2xv2::answer::Refusal;
 
-// The byte at place `i` of a stuffing descriptor of `n` bytes.
-fn stuffing_byte(n: usize, i: usize) -> u8
-    requires { ⌜ (2 ≤ n) × ((n ≤ 257) × (i < n)) ⌝ }
-    ensures { λ r. ⌜ r ≡ getD (stuffing n) i 0 ⌝ }
-{
-    if 1 < i {
-        return FILLER;
-    }
-    if i == 0 {
-        return STUFFING_TAG;
-    }
-    (n - 2) as u8
-}
-
-// Makes the slot one stuffing descriptor.
-fn fill(slot: &mut [u8], n: usize)
-    requires { ⌜ (2 ≤ n) × ((n ≤ 257) × (length (now slot) ≡ n)) ⌝ }
-    ensures { λ _. ⌜ now (slot .exit) ≡ stuffing n ⌝ }
+// Stores the filler in every byte.
+fn fill(slot: &mut [u8])
+    ensures { λ _. ⌜ now (slot .exit) ≡ replicate (length (now (slot .entry))) filler ⌝ }
 {
     let mut i: usize = 0;
-    while i < n {
-        slot[i] = stuffing_byte(n, i);
+    while i < slot.len() {
+        slot[i] = FILLER;
         i += 1;
     }
 }
@@ -44,7 +28,9 @@ pub fn make_empty(slot: &mut [u8]) -> SlotAnswer
 {
     let n = slot.len();
     if is_size(n) {
-        fill(slot, n);
+        fill(slot);
+        slot[0] = STUFFING_TAG;
+        slot[1] = (n - 2) as u8;
         return SlotAnswer::Empty;
     }
     SlotAnswer::Refused(Refusal::Slot)

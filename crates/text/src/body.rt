@@ -67,10 +67,13 @@ pub(crate) fn text_of(sel: &[u8], out: &mut [u8]) -> usize
     let answer = read.answer;
     let body = read.body;
     match answer {
-        Answer::Accepted(_) => {
-            let tail = reader::reserved_tail(sel);
-            accepted(out, 0, sel.len() as u64, body, tail.len() as u64)
-        }
+        Answer::Accepted(tail) => accepted(
+            out,
+            0,
+            sel.len() as u64,
+            body,
+            (sel.len() - tail) as u64,
+        ),
         Answer::Refused(why) => refused(out, 0, why),
     }
 }

@@ -1,66 +1,53 @@
--- `slot::empty::fill` meets its contract: after i turns the slot has the first i bytes of the stuffing descriptor, and behind them its own.
+-- `slot::empty::fill` meets its contract: after i turns the first i bytes are the filler, and behind them stand the slot's own.
 -- Assumes nothing.
 use mathlib.Core.Path.{_≡_, refl, sym, _∙_}
-use Prim.Native.Nat.{_-_, _≤_}
+use Prim.Native.Nat.{_-_, _≤_, _<_}
 use native.Mathlib.Omega.{arith}
-use lib.Seq.{paste}
-use Rattle.form.specs.Envelope.{stuffing}
-use Rattle.form.proofs.Stuffing.{over-length, over-more, over-all}
+use lib.ListN.{length}
+use denote.Ref.{now}
+use borrow.Author.Needs.{needs}
+use Rattle.slot.proofs.Emptying.{laid, laid-length, laid-more, laid-all}
 use Rattle.slot.proofs.empty.fill.Statement.{statement}
 use Rattle.slot.proofs.empty.fill.Tie as tie
 
 abbrev Inv-loop : tie.InvT-loop
-Inv-loop slot₀ n i₀ slot i = (i ≤ n) × (slot ≡ paste slot₀ 0 (stuffing n) i)
+Inv-loop slot₀ i₀ slot i = (i ≤ length slot₀) × (slot ≡ laid slot₀ i)
 
 abbrev μ-loop : tie.MeasureT-loop
-μ-loop slot₀ n i₀ slot i = n - i
+μ-loop slot₀ i₀ slot i = length slot₀ - i
 
 loop-holds : tie.Need-loop-holds Inv-loop μ-loop
 loop-holds c = (omega arith, refl)
 
-stuffing-byte-requires : tie.Need-stuffing-byte-requires Inv-loop μ-loop
-stuffing-byte-requires c κs = omega arith
-
 slice-write-slot : tie.Need-slice-write-slot Inv-loop μ-loop
-slice-write-slot c =
-    let L = c .before .before .loop in
-    let p = c .before .before .before .before .pre in
-    rw (L .inv .1, over-length _ _ (p .1 .1) (L .i) (omega arith)) (omega arith)
+slice-write-slot c = c .loop-test .taken
 
 add-i : tie.Need-add-i Inv-loop μ-loop
-add-i c = omega arith
+add-i c = search needs
 
 loop-less : tie.Need-loop-less Inv-loop μ-loop
-loop-less c = omega arith
+loop-less c =
+    let L = c .before .loop in
+    let e : length (L .slot) ≡ length (now (c .before .before .args .slot)) = rw (L .inv .1) (laid-length _ (L .i) (L .inv .0)) in
+    omega arith
 
 loop-again : tie.Need-loop-again Inv-loop μ-loop
 loop-again c =
-    let L = c .before .before .loop in
-    let p = c .before .before .before .before .pre in
-    (omega arith, rw (L .inv .1, c .stuffing-byte .ensures) (over-more _ _ (p .1 .1) (L .i) (omega arith)))
+    let L = c .before .loop in
+    let s = now (c .before .before .args .slot) in
+    let e : length (L .slot) ≡ length s = rw (L .inv .1) (laid-length s (L .i) (L .inv .0)) in
+    let h : L .i < length s = omega arith in
+    (omega arith, rw (L .inv .1) (laid-more s (L .i) h))
 
 same-length : tie.Need-same-length Inv-loop μ-loop
-same-length c =
-    let L = c .before .loop in
-    let p = c .before .before .before .pre in
-    rw (L .inv .1) (over-length _ _ (p .1 .1) (L .i) (omega arith) ∙ sym (p .1 .1))
+same-length c = let L = c .before .loop in rw (L .inv .1) (laid-length _ (L .i) (L .inv .0))
 
 returns : tie.Need-returns Inv-loop μ-loop
 returns c =
     let L = c .before .loop in
-    L .inv .1 ∙ over-all _ _ (c .before .before .before .pre .1 .1) (L .i) (omega arith)
+    let s = now (c .before .before .args .slot) in
+    let e : length (L .slot) ≡ length s = rw (L .inv .1) (laid-length s (L .i) (L .inv .0)) in
+    L .inv .1 ∙ laid-all s (L .i) (omega arith)
 
 pub fill-spec : {M : Type 1} → statement M
-fill-spec =
-    tie.close
-    (tie.spec
-    Inv-loop
-    μ-loop
-    loop-holds
-    stuffing-byte-requires
-    slice-write-slot
-    add-i
-    loop-less
-    loop-again
-    same-length
-    returns)
+fill-spec = tie.close (tie.spec Inv-loop μ-loop loop-holds slice-write-slot add-i loop-less loop-again same-length returns)
