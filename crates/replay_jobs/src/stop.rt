@@ -1,10 +1,11 @@
 // A job on a slot, stopped after a number of stores.
+use crate::print::bit;
+use crate::print::number;
 use crate::sample::copy;
 use crate::sample::put;
 use crate::sample::put_bytes;
 use crate::sample::put_size;
 use job::job::Job;
-use job::job::StepAnswer;
 use s2xv2::answer::Answer;
 use s2xv2::answer::Refusal;
 use s2xv2::record::S2Xv2SatelliteDeliverySystem;
@@ -55,28 +56,12 @@ fn job_for(slot: &[u8], body: &[u8]) -> Job {
     b.job
 }
 
-// A step's answer as its number.
-fn answer_number(answer: StepAnswer) -> u32 {
-    match answer {
-        StepAnswer::Accepted => 0,
-        StepAnswer::OtherSize => 8,
-    }
-}
-
-// A flag as a number.
-fn bit(b: bool) -> u32 {
-    if b { 1 } else { 0 }
-}
-
 // A step of so many stores.
 fn put_step(d: u32, slot: &mut [u8], body: &[u8], allowance: usize) -> u32 {
     let job = job_for(slot, body);
     let s = job.step(slot, allowance);
     let answer = s.answer;
-    put(
-        put(put_size(d, s.stores), bit(s.done)),
-        answer_number(answer),
-    )
+    put(put(put_size(d, s.stores), bit(s.done)), number(answer))
 }
 
 // What a slot reads as: 0 with the tail's place and length, 9 for an empty one, or a refusal.
