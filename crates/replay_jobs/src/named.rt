@@ -1,5 +1,5 @@
-// The begins with a name: each answer of begin, and their order. Where begin is refused, the job that it gives is refused
-// by a step, and the slot stays as it was.
+// The begins with a name: each answer of begin, and their order. Where begin is refused, the job that it gives is
+// refused by a step, and the slot stays as it was.
 use crate::print;
 use crate::sample::fill;
 use crate::sample::put_bytes;
@@ -190,8 +190,8 @@ fn wrong_slots() {
     one(b"second tag", Slot::SecondTag, Kind::Core, 2);
 }
 
-// Records that contradict themselves, encodings at the limit, descriptors that do not fit, and values that the wire cannot
-// carry.
+// Records that contradict themselves, encodings at the limit, descriptors that do not fit, and values that the wire
+// cannot carry.
 fn wrong_records() {
     one(b"mode Reserved(1)", Slot::Held, Kind::Reserved1, 2);
     one(b"no superframe", Slot::Held, Kind::NoBlock, 2);

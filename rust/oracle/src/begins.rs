@@ -1,5 +1,5 @@
-//! The begins with a name of the program `replay_jobs`: each answer of begin, by the plain model of `jobs.rs`. Where begin
-//! is refused, the job that it gives is refused by a step, and the slot stays as it was.
+//! The begins with a name of the program `replay_jobs`: each answer of begin, by the plain model of `jobs.rs`. Where
+//! begin is refused, the job that it gives is refused by a step, and the slot stays as it was.
 use crate::jobs::{begin, filled, step};
 use crate::stream::Stream;
 use crate::values::*;
@@ -122,8 +122,8 @@ fn record(full: bool, set: &[(usize, u32)]) -> Values {
     values
 }
 
-/// Of each: its name, what begin answers, what a step of its job answers, how many stores it makes and whether the job is
-/// done, and a digest of the slot after the step.
+/// Of each: its name, what begin answers, what a step of its job answers, how many stores it makes and whether the job
+/// is done, and a digest of the slot after the step.
 pub fn rows() -> Vec<(&'static str, Vec<u32>, [u32; 3], u32)> {
     let run = |(name, layout, full, set, tail): &Row| {
         let mut slot = laid(*layout);
