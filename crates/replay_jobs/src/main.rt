@@ -1,9 +1,14 @@
-// Jobs on slots: for every slot size and several records, a job is stopped after every number of stores; what the slot then reads as and
-// holds, and what a new job begun there leaves, goes into a digest. What is printed is what a plain model of document 01 gives if all is
-// right.
+// Jobs on slots: begins with a name, for each answer that begin gives; and for every slot size and several records a
+// job that is stopped after every number of stores, made by one step or by two of a job that is lent: what the slot
+// then reads as and holds, and what a new job begun there leaves, goes into a digest. What is printed is what a plain
+// model of document 01 gives if all is right.
+mod lent;
+mod named;
+mod print;
 mod sample;
 mod stop;
 
+use print::word;
 use sample::fill;
 use sample::store;
 
@@ -124,14 +129,9 @@ fn run_all(tail: &[u8], counts: &mut [u32; 5]) -> u32 {
     d
 }
 
-// Prints a text and a number.
-fn word(text: &[u8], n: u32) {
-    io::write_all(1, text);
-    io::print_decimal(1, n as u64);
-}
-
-// Runs all cases, and prints the counts and the digest.
+// Runs the begins with a name, and then all cases, and prints the counts and the digest.
 fn main() {
+    named::begins();
     let mut tail = [0u8; 257];
     let mut counts = [0u32; 5];
     fill(&mut tail, 257, 1);

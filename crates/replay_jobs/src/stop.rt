@@ -1,10 +1,13 @@
 // A job on a slot, stopped after a number of stores.
+use crate::lent::step_lent;
+use crate::print::bit;
+use crate::print::number;
 use crate::sample::copy;
 use crate::sample::put;
 use crate::sample::put_bytes;
 use crate::sample::put_size;
 use job::job::Job;
-use job::job::StepAnswer;
+use job::job::Stepped;
 use s2xv2::answer::Answer;
 use s2xv2::answer::Refusal;
 use s2xv2::record::S2Xv2SatelliteDeliverySystem;
@@ -55,28 +58,29 @@ fn job_for(slot: &[u8], body: &[u8]) -> Job {
     b.job
 }
 
-// A step's answer as its number.
-fn answer_number(answer: StepAnswer) -> u32 {
-    match answer {
-        StepAnswer::Accepted => 0,
-        StepAnswer::OtherSize => 8,
+// Two steps of a job that is lent: half of the stores, and the others.
+fn step_in_two(job: Job, slot: &mut [u8], allowance: usize) -> Stepped {
+    let half = allowance / 2;
+    let first = step_lent(job, slot, half);
+    let stepped = first.job;
+    let mut last = step_lent(stepped, slot, allowance - half);
+    last.stores = std::num::wrapping_add_usize(first.stores, last.stores);
+    last
+}
+
+// So many stores: by one step, or for an odd number of them by two steps of a job that is lent.
+fn stepped(job: Job, slot: &mut [u8], allowance: usize) -> Stepped {
+    if allowance % 2 == 0 {
+        return job.step(slot, allowance);
     }
+    step_in_two(job, slot, allowance)
 }
 
-// A flag as a number.
-fn bit(b: bool) -> u32 {
-    if b { 1 } else { 0 }
-}
-
-// A step of so many stores.
+// So many stores, and what the last step tells.
 fn put_step(d: u32, slot: &mut [u8], body: &[u8], allowance: usize) -> u32 {
-    let job = job_for(slot, body);
-    let s = job.step(slot, allowance);
+    let s = stepped(job_for(slot, body), slot, allowance);
     let answer = s.answer;
-    put(
-        put(put_size(d, s.stores), bit(s.done)),
-        answer_number(answer),
-    )
+    put(put(put_size(d, s.stores), bit(s.done)), number(answer))
 }
 
 // What a slot reads as: 0 with the tail's place and length, 9 for an empty one, or a refusal.

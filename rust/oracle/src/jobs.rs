@@ -92,7 +92,8 @@ pub fn reading(slot: &[u8]) -> Vec<u32> {
     }
 }
 
-fn filled(start: u32, count: usize) -> Vec<u8> {
+/// So many bytes, by draws.
+pub fn filled(start: u32, count: usize) -> Vec<u8> {
     let mut x = seed(start);
     let mut bytes = vec![0; count];
     for b in &mut bytes {

@@ -1,5 +1,6 @@
 //! The crate's own code, asked for its answers, and a plain model of what it does not have. `main.rs` says what can be done with it.
 pub mod answer;
+pub mod begins;
 pub mod compare;
 pub mod crate_side;
 pub mod generator;

@@ -8,7 +8,7 @@
 //!     oracle compare PROGRAM       finds the first case in which PROGRAM, a built `replay`, differs
 use oracle::answer::{Answer, CELLS};
 use oracle::stream::Stream;
-use oracle::{compare, crate_side, generator, jobs, named, sets};
+use oracle::{begins, compare, crate_side, generator, jobs, named, sets};
 use std::process::ExitCode;
 
 fn words(numbers: &[u32]) -> String {
@@ -44,6 +44,9 @@ fn record() {
 }
 
 fn record_jobs() {
+    for (name, told, step, digest) in begins::rows() {
+        println!("begin {name}: {}; step {}; slot {digest}", words(&told), words(&step));
+    }
     let mut counts = jobs::Counts::default();
     let mut s = Stream::default();
     for case in 0..jobs::CASES {

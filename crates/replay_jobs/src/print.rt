@@ -1,0 +1,58 @@
+// What is printed.
+use job::job::Job;
+use job::job::StepAnswer;
+use s2xv2::answer::Answer;
+use s2xv2::answer::Refusal;
+
+// Prints a text and a number.
+pub(crate) fn word(text: &[u8], n: u32) {
+    io::write_all(1, text);
+    io::print_decimal(1, n as u64);
+}
+
+// Prints a text and a size.
+fn size(text: &[u8], n: usize) {
+    word(text, (n % 4_294_967_296) as u32);
+}
+
+// Prints a refusal of begin: its number, and what it tells. Any other is a number that document 01 does not have.
+fn refusal(why: Refusal) {
+    match why {
+        Refusal::Long { length } => word(b"2 ", length as u32),
+        Refusal::Inconsistent { place } => word(b"3 ", place as u32),
+        Refusal::Field { place } => word(b"4 ", place as u32),
+        Refusal::Slot => word(b"", 6),
+        Refusal::NoFit { size: d } => size(b"7 ", d),
+        _ => word(b"", 99),
+    }
+}
+
+// Prints what begin answers.
+pub(crate) fn answer(a: Answer) {
+    match a {
+        Answer::Accepted(n) => size(b"0 ", n),
+        Answer::Refused(why) => refusal(why),
+    }
+}
+
+// A step's answer as its number.
+pub(crate) fn number(a: StepAnswer) -> u32 {
+    match a {
+        StepAnswer::Accepted => 0,
+        StepAnswer::OtherSize => 8,
+    }
+}
+
+// A flag as a number.
+pub(crate) fn bit(b: bool) -> u32 {
+    if b { 1 } else { 0 }
+}
+
+// Steps a job to its end, and prints what the step answers: its number, the stores made, and whether the job is done.
+pub(crate) fn step(job: Job, slot: &mut [u8]) {
+    let s = job.step(slot, 1000);
+    let a = s.answer;
+    word(b"; step ", number(a));
+    size(b" ", s.stores);
+    word(b" ", bit(s.done));
+}
