@@ -24,7 +24,7 @@ enum {
     S2XV2_SLOT = 6,         /* the slot is not in good form */
     S2XV2_NO_FIT = 7,       /* first: the descriptor's size, which is larger than the slot's or exactly one smaller */
     S2XV2_OTHER_SIZE = 8,   /* the slot's size is not the job's, or no begin and steps could give the job's numbers */
-    S2XV2_FOREIGN = 100     /* a record that none of the library's could be: a flag above 1, or a code of 6 and more without mode_is_reserved */
+    S2XV2_FOREIGN = 100     /* a record that none of the library's could be: a flag that is looked at is above 1, or a code is 6 or more without mode_is_reserved */
 };
 
 typedef struct {
@@ -34,8 +34,8 @@ typedef struct {
     size_t third;
 } S2xv2Answer;
 
-/* A flag is a byte, 0 or 1. A number that may be absent has a flag `has_` beside it: where that is 0 the number comes back as 0, and is not looked at when it is sent. A record that is
-   cleared to zeros and then filled has no flag that is neither. */
+/* A flag is a byte, 0 or 1. A number, a selector or a block that may be absent has a flag `has_` beside it: where that is 0 it comes back as 0, and is not looked at when it is sent,
+   whatever it holds, nor is any flag inside such a block. A record that is cleared to zeros and then filled has no flag that is neither. */
 typedef struct {
     uint32_t reference_scrambling_index;
     uint32_t payload_scrambling_index;

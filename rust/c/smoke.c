@@ -1,5 +1,5 @@
-/* Calls each function of s2xv2.h with what it accepts and with what it refuses, with null pointers of length 0, with flags of 2 and with forged jobs, as C11 and as C++. Says what is
-   wrong, and ends with 1 then. */
+/* Calls each function of s2xv2.h with what it accepts and with what it refuses, with null pointers of length 0, with flags of 2, with anything behind a flag that says absent and with
+   forged jobs, as C11 and as C++. Says what is wrong, and ends with 1 then. */
 #include "s2xv2.h"
 
 #include <stdio.h>
@@ -91,7 +91,7 @@ static void writing(void) {
     CHECK(buffer[0] == 0 && buffer[17] == 7 && buffer[18] == 1 && buffer[19] == 2 && all(buffer + 20, 12, 0xA5));
 }
 
-/* Each way in which a record can be none of the library's. */
+/* Each way in which a record can be none of the library's: a selector and the flags of a block are there. */
 static S2xv2Record foreign(int way) {
     S2xv2Record record = zeros();
     uint8_t *const flags[] = {
@@ -110,6 +110,8 @@ static S2xv2Record foreign(int way) {
         &record.superframe.has_sffi,
         &record.superframe.has_beamhopping_time_plan_id,
     };
+    record.has_scrambling_sequence_selector = way == 5;
+    record.has_superframe = way >= 10 && way < 14;
     if (way < 14) {
         *flags[way] = 2;
     } else {
@@ -131,6 +133,48 @@ static void foreigners(void) {
         CHECK(told(s2xv2_serialized_len(record, NULL, 0), S2XV2_FOREIGN, 0, 0, 0));
         CHECK(told(s2xv2_serialize_into(record, NULL, 0, buffer, 32), S2XV2_FOREIGN, 0, 0, 0));
         CHECK(all(buffer, 32, 0xA5));
+    }
+}
+
+/* A record of zeros, with a byte in each place behind one of the flags that say absent. */
+static S2xv2Record absent(int way, uint8_t byte) {
+    S2xv2Record record = zeros();
+    switch (way) {
+    case 0:
+        record.scrambling_sequence_selector = byte;
+        break;
+    case 1:
+        memset(&record.superframe, byte, sizeof record.superframe);
+        break;
+    case 2:
+        record.input_stream_identifier = byte;
+        break;
+    case 3:
+        memset(&record.scrambling_sequence_index, byte, sizeof record.scrambling_sequence_index);
+        break;
+    default:
+        record.timeslice_number = byte;
+    }
+    return record;
+}
+
+static void absentees(void) {
+    const uint8_t bytes[] = {1, 2, 255};
+    uint8_t slot[21];
+    uint8_t buffer[32];
+    S2xv2Begun plain;
+    int k;
+    CHECK(told(s2xv2_slot_make_empty(slot, 21), S2XV2_ACCEPTED, 0, 0, 0));
+    plain = s2xv2_begin(slot, 21, zeros(), NULL, 0);
+    for (k = 0; k < 15; k++) {
+        S2xv2Record record = absent(k / 3, bytes[k % 3]);
+        S2xv2Begun begun = s2xv2_begin(slot, 21, record, NULL, 0);
+        CHECK(told(begun.answer, S2XV2_ACCEPTED, 23, 0, 0) && begun.job.descriptor_size == 21);
+        CHECK(memcmp(begun.job.staged, plain.job.staged, sizeof plain.job.staged) == 0);
+        CHECK(told(s2xv2_serialized_len(record, NULL, 0), S2XV2_ACCEPTED, 18, 0, 0));
+        memset(buffer, 0xA5, sizeof buffer);
+        CHECK(told(s2xv2_serialize_into(record, NULL, 0, buffer, 32), S2XV2_ACCEPTED, 18, 0, 0));
+        CHECK(all(buffer, 18, 0) && all(buffer + 18, 14, 0xA5));
     }
 }
 
@@ -239,6 +283,7 @@ int main(void) {
     reading();
     writing();
     foreigners();
+    absentees();
     slots();
     begins();
     steps();

@@ -5,7 +5,7 @@ use mathlib.Core.Path.{_≡_, refl}
 use mathlib.Core.Bool.{Bool, true, false}
 use Prim.Native.Nat.{ℕ}
 use lib.Dec.{ltb}
-use Rattle.wire.specs.Flags.{bit}
+use Rattle.wire.specs.Flags.{when, bit}
 use Rattle.wire.proofs.Flags.{is-bit}
 use Rattle.s2xv2.specs.Table144c.{modeOf, codeOf}
 use Rattle.s2xv2.specs.Options.{isSomeBool, isSome8, isSome32, isSomeSuperframe, selected, orZero8, orZero32, someBoolIf, some8If, some32If, someSuperframeIf}
@@ -102,6 +102,10 @@ block-flagged : (o : OptionSuperframe) → flags (blockFlags (superframeOut o)) 
 block-flagged (OS.Some f) = simp flag
 block-flagged OS.None = refl
 
+either-way : (b : Bool) → when b true true ≡ true
+either-way true = refl
+either-way false = refl
+
 pub out-valid : (r : S2Xv2SatelliteDeliverySystem) → valid (recordOut r) ≡ true
 unfolding valid
-out-valid r = simp (flag, reserved-flag, block-flagged, named-out)
+out-valid r = simp (flag, reserved-flag, block-flagged, named-out, either-way)

@@ -1,5 +1,7 @@
--- What comes from C: `recordIn` is the record that is meant, `blockIn` its block, `modeIn` its mode. `valid` says that there is one: all `flags`, those of `recordFlags` and of `blockFlags`, are 0 or 1, and
--- a mode without `Reserved` is one that has a name (`named`). `foreign` is what is answered where there is none. Assumes nothing.
+-- What comes from C: `recordIn` is the record that is meant, `blockIn` its block, `modeIn` its mode. `valid` says that there is one: each of
+-- its flags is 0 or 1 (`flags`, of `recordFlags` and of `blockFlags`), and a mode without `Reserved` is one that has a name (`named`). What
+-- stands behind a flag that says absent is not looked at, whatever it holds: a scrambling selector and the flags of a block count only where
+-- they are there (`allowed`). `foreign` is what is answered where there is no record. Assumes nothing.
 use Prim.Native.Nat.{ℕ}
 use mathlib.Core.List.{List, [], _∷_}
 use mathlib.Core.Bool.{Bool, true}
@@ -65,35 +67,39 @@ recordIn c = record {
 
 -- ---- what no record could hold
 
--- the flags of a block, and of a record
-abbrev pub blockFlags : FlatSuperframe → List ℕ
-blockFlags f = f .«sffi_selector» ∷ f .«beam_hopping_time_plan_selector» ∷ f .«has_sffi» ∷ f .«has_beamhopping_time_plan_id» ∷ []
-
+-- the flags of a record that have no other behind them, and those of a block
 abbrev pub recordFlags : FlatRecord → List ℕ
 recordFlags c =
     c .«mode_is_reserved»
     ∷ c .«multiple_input_stream_flag»
     ∷ c .«ncr_reference»
     ∷ c .«ncr_version»
-    ∷ c .«has_scrambling_sequence_selector»
-    ∷ c .«scrambling_sequence_selector»
     ∷ c .«has_input_stream_identifier»
     ∷ c .«has_scrambling_sequence_index»
     ∷ c .«has_timeslice_number»
-    ∷ c .«has_superframe»
     ∷ []
+
+abbrev pub blockFlags : FlatSuperframe → List ℕ
+blockFlags f = f .«sffi_selector» ∷ f .«beam_hopping_time_plan_selector» ∷ f .«has_sffi» ∷ f .«has_beamhopping_time_plan_id» ∷ []
 
 -- each is 0 or 1
 abbrev pub flags : List ℕ → Bool
 flags [] = true
 flags (v ∷ vs) = and (ltb v 2) (flags vs)
 
+-- a flag is 0 or 1, and where it is 1, what stands behind it is so
+abbrev pub allowed : ℕ → Bool → Bool
+allowed has so = and (ltb has 2) (when (isOne has) so true)
+
 -- a mode that is not `Reserved` has a code below 6
 abbrev pub named : ℕ → ℕ → Bool
 named reserved code = when (isOne reserved) true (ltb code 6)
 
 unfoldable pub valid : FlatRecord → Bool
-valid c = and (flags (recordFlags c)) (and (flags (blockFlags (c .superframe))) (named (c .«mode_is_reserved») (c .«s2xv2_mode»)))
+valid c =
+    and (flags (recordFlags c))
+    (and (allowed (c .«has_scrambling_sequence_selector») (ltb (c .«scrambling_sequence_selector») 2))
+    (and (allowed (c .«has_superframe») (flags (blockFlags (c .superframe)))) (named (c .«mode_is_reserved») (c .«s2xv2_mode»))))
 
 -- a number above all that the library has
 abbrev pub foreign : FlatAnswer

@@ -4,7 +4,7 @@ ghost use lib.Dec.{ltb};
 ghost use Rattle.wire.specs.Flags.{isOne};
 ghost use Rattle.s2xv2.specs.Options.{someBoolIf, some8If, some32If, someSuperframeIf};
 ghost use Rattle.flat.specs.Core.{coreOf};
-ghost use Rattle.flat_in.specs.Input.{modeIn, blockIn, recordIn, blockFlags, recordFlags, flags, named, valid};
+ghost use Rattle.flat_in.specs.Input.{modeIn, blockIn, recordIn, blockFlags, recordFlags, flags, allowed, named, valid};
 use flat::types::FlatRecord;
 use flat::types::FlatSuperframe;
 use s2xv2::mode::S2Xv2Mode;
@@ -14,6 +14,7 @@ use s2xv2::option::OptionU32;
 use s2xv2::record::S2Xv2SatelliteDeliverySystem;
 use s2xv2::superframe::OptionSuperframe;
 use s2xv2::superframe::S2Xv2Superframe;
+use wire::field::bit_of;
 use wire::field::joined;
 
 // A flag that is set.
@@ -150,7 +151,7 @@ pub fn record_in(c: FlatRecord) -> S2Xv2SatelliteDeliverySystem
     }
 }
 
-// The flags of the block, joined: below 2 only if each is 0 or 1.
+// The flags of a block, joined: below 2 only if each is 0 or 1.
 fn block_flags(f: FlatSuperframe) -> u8
     ensures { λ r. ⌜ ltb r 2 ≡ flags (blockFlags f) ⌝ }
 {
@@ -160,22 +161,24 @@ fn block_flags(f: FlatSuperframe) -> u8
     )
 }
 
-// The flags of the record, joined: below 2 only if each is 0 or 1.
+// The flags of the record that have no other behind them, joined: below 2 only if each is 0 or 1.
 fn record_flags(c: FlatRecord) -> u8
     ensures { λ r. ⌜ ltb r 2 ≡ flags (recordFlags c) ⌝ }
 {
     let first = joined(c.mode_is_reserved, c.multiple_input_stream_flag);
     let second = joined(c.ncr_reference, c.ncr_version);
     let third = joined(
-        c.has_scrambling_sequence_selector,
-        c.scrambling_sequence_selector,
-    );
-    let fourth = joined(
         c.has_input_stream_identifier,
         c.has_scrambling_sequence_index,
     );
-    let fifth = joined(c.has_timeslice_number, c.has_superframe);
-    joined(joined(joined(first, second), joined(third, fourth)), fifth)
+    joined(joined(joined(first, second), third), c.has_timeslice_number)
+}
+
+// A flag is 0, or it is 1 and the flags behind it, joined, are below 2.
+fn is_allowed(has: u8, flags: u8) -> bool
+    ensures { λ r. ⌜ r ≡ allowed has (ltb flags 2) ⌝ }
+{
+    has <= bit_of(flags < 2)
 }
 
 // A mode that is not `Reserved` has a code below 6.
@@ -190,10 +193,9 @@ pub fn is_valid(c: FlatRecord) -> bool
     ensures { λ r. ⌜ r ≡ valid c ⌝ }
 {
     let block = c.superframe;
-    let flags = joined(record_flags(c), block_flags(block));
-    if flags < 2 {
-        is_named(c.mode_is_reserved, c.s2xv2_mode)
-    } else {
-        false
-    }
+    let selector = c.scrambling_sequence_selector;
+    let flags = (record_flags(c) < 2)
+        & is_allowed(c.has_scrambling_sequence_selector, selector)
+        & is_allowed(c.has_superframe, block_flags(block));
+    flags && is_named(c.mode_is_reserved, c.s2xv2_mode)
 }

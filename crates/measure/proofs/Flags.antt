@@ -1,4 +1,5 @@
--- Laws of flags that cross as bytes: every flag of a record that could be one is 0 or 1 (`flagged`), and what is joined, both or only there goes by such bytes.
+-- Laws of flags that cross as bytes: every flag of a record that could be one is 0 or 1 if it is there (`flagged`, `block-allowed`, `flagged-block`), and what is
+-- joined, both or only there goes by such bytes.
 -- Assumes nothing.
 use mathlib.Core.Path.{_≡_, refl, sym, ap, ap₂, _∙_}
 use mathlib.Core.Bool.{Bool, true, false}
@@ -8,8 +9,8 @@ use Prim.Native.Nat.{ℕ, zero, suc, _+_, _*_, _<_}
 use native.Mathlib.Omega.{arith}
 use lib.Bits.{bitAnd, and-le-l}
 use lib.Dec.{ltb, leb}
-use borrow.Author.Tests.{ltb-true, lt-ltb, lt-leb}
-use Rattle.wire.specs.Flags.{bit, isOne, and, joinedOf}
+use borrow.Author.Tests.{ltb-true, lt-ltb, lt-leb, eq-eqb}
+use Rattle.wire.specs.Flags.{when, bit, isOne, and, joinedOf}
 use Rattle.wire.specs.Parts.{_⦂_, sizes}
 use Rattle.s2xv2.specs.Read.{only}
 use Rattle.s2xv2.specs.Table144b.{superframeEnd}
@@ -17,20 +18,18 @@ use Rattle.s2xv2.specs.Options.{some32If}
 use Rattle.s2xv2.specs.Encode.{planParts, blockLength, superframeEndValues}
 use Rattle.s2xv2.specs.declared.superframe.S2Xv2Superframe.{S2Xv2Superframe}
 use Rattle.s2xv2.specs.declared.option.OptionU32.{OptionU32}
-use Rattle.flat_in.specs.Input.{blockIn, valid, flags, recordFlags, blockFlags}
+use Rattle.flat_in.specs.Input.{blockIn, valid, flags, allowed, recordFlags, blockFlags}
 use Rattle.wire.proofs.Joined.{joined-below}
 use Rattle.wire.proofs.Flags.{never}
 use Rattle.flat.specs.declared.types.FlatSuperframe.{FlatSuperframe}
 use Rattle.flat.specs.declared.types.FlatRecord.{FlatRecord}
 
-pub both-bits : (a b : ℕ) → a < 2 → b < 2 → bitAnd a b ≡ bit (and (isOne a) (isOne b))
-both-bits zero zero h k = refl
-both-bits zero (suc zero) h k = refl
+pub both-bits : (a b : ℕ) → a < 2 → only (isOne a) b < 2 → bitAnd a b ≡ bit (and (isOne a) (isOne b))
+both-bits zero b h k = refl
 both-bits (suc zero) zero h k = refl
 both-bits (suc zero) (suc zero) h k = refl
-both-bits (suc (suc n)) b h k = absurd (omega arith)
-both-bits zero (suc (suc n)) h k = absurd (omega arith)
 both-bits (suc zero) (suc (suc n)) h k = absurd (omega arith)
+both-bits (suc (suc n)) b h k = absurd (omega arith)
 
 pub both-small : (a b : ℕ) → a < 2 → bitAnd a b < 2
 both-small a b h = omega (arith, and-le-l a b)
@@ -87,7 +86,7 @@ pub record Flagged (c : FlatRecord) : Type 0 where
   pub reference : c .«ncr_reference» < 2
   pub version : c .«ncr_version» < 2
   pub scrambled : c .«has_scrambling_sequence_selector» < 2
-  pub selector : c .«scrambling_sequence_selector» < 2
+  pub selector : only (isOne (c .«has_scrambling_sequence_selector»)) (c .«scrambling_sequence_selector») < 2
   pub stream : c .«has_input_stream_identifier» < 2
   pub index : c .«has_scrambling_sequence_index» < 2
   pub timeslice : c .«has_timeslice_number» < 2
@@ -101,21 +100,35 @@ all-below : (vs : List ℕ) → flags vs ≡ true → AllBelow vs
 all-below [] e = tt
 all-below (v ∷ vs) e = (ltb-true v 2 (both-left (ltb v 2) (flags vs) e), all-below vs (both-right (ltb v 2) (flags vs) e))
 
+-- a flag that has others behind it is 0 or 1, and where it is 1, so are they
+below-flag : (has : ℕ) (so : Bool) → allowed has so ≡ true → has < 2
+below-flag has so e = ltb-true has 2 (both-left (ltb has 2) _ e)
+
+below-behind : (t : Bool) (v : ℕ) → when t (ltb v 2) true ≡ true → only t v < 2
+below-behind true v e = ltb-true v 2 e
+below-behind false v e = omega arith
+
+pub block-allowed : (c : FlatRecord) → valid c ≡ true → allowed (c .«has_superframe») (flags (blockFlags (c .superframe))) ≡ true
+unfolding valid
+block-allowed c v = both-left _ _ (both-right (allowed (c .«has_scrambling_sequence_selector») (ltb (c .«scrambling_sequence_selector») 2)) _ (both-right (flags (recordFlags c)) _ v))
+
 pub flagged : (c : FlatRecord) → valid c ≡ true → Flagged c
 unfolding valid
 flagged c v =
     let e = all-below (recordFlags c) (both-left _ _ v) in
+    let has = c .«has_scrambling_sequence_selector» in
+    let s = both-left (allowed has (ltb (c .«scrambling_sequence_selector») 2)) _ (both-right (flags (recordFlags c)) _ v) in
     record {
       reserved = e .0;
       flag = e .1 .0;
       reference = e .1 .1 .0;
       version = e .1 .1 .1 .0;
-      scrambled = e .1 .1 .1 .1 .0;
-      selector = e .1 .1 .1 .1 .1 .0;
-      stream = e .1 .1 .1 .1 .1 .1 .0;
-      index = e .1 .1 .1 .1 .1 .1 .1 .0;
-      timeslice = e .1 .1 .1 .1 .1 .1 .1 .1 .0;
-      superframe = e .1 .1 .1 .1 .1 .1 .1 .1 .1 .0;
+      scrambled = below-flag has _ s;
+      selector = below-behind (isOne has) (c .«scrambling_sequence_selector») (both-right (ltb has 2) _ s);
+      stream = e .1 .1 .1 .1 .0;
+      index = e .1 .1 .1 .1 .1 .0;
+      timeslice = e .1 .1 .1 .1 .1 .1 .0;
+      superframe = below-flag (c .«has_superframe») _ (block-allowed c v);
     }
 
 pub flagged-block : (f : FlatSuperframe) → flags (blockFlags f) ≡ true → FlaggedBlock f
@@ -123,9 +136,8 @@ flagged-block f v =
     let e = all-below (blockFlags f) v in
     record { selector = e .0; hopping = e .1 .0; sffi = e .1 .1 .0; plan = e .1 .1 .1 .0 }
 
-pub block-flags : (c : FlatRecord) → valid c ≡ true → flags (blockFlags (c .superframe)) ≡ true
-unfolding valid
-block-flags c v = both-left _ _ (both-right (flags (recordFlags c)) _ v)
+pub block-there : (there : ℕ) (f : FlatSuperframe) → there ≡ 1 → allowed there (flags (blockFlags f)) ≡ true → flags (blockFlags f) ≡ true
+block-there there f h e = rw (eq-eqb there 1 h) at (both-right (ltb there 2) _ e)
 
 -- ---- the size of a block
 

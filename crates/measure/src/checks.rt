@@ -1,4 +1,4 @@
-// Whether a record passes lists A and B: every test at once, with no place told. A flag is 0 or 1.
+// Whether a record passes lists A and B: every test at once, with no place told. A flag that is there is 0 or 1.
 ghost use mathlib.Core.Path.{_≡_};
 ghost use mathlib.Core.Bool.{true};
 ghost use mathlib.Core.List.{[], _∷_};

@@ -8,7 +8,7 @@ ghost use Rattle.wire.specs.Parts.{sizes};
 ghost use Rattle.s2xv2.specs.Options.{someSuperframeIf};
 ghost use Rattle.s2xv2.specs.Read.{only};
 ghost use Rattle.s2xv2.specs.Encode.{superframeParts, partsOf};
-ghost use Rattle.flat_in.specs.Input.{blockIn, recordIn, valid};
+ghost use Rattle.flat_in.specs.Input.{blockIn, recordIn, blockFlags, flags, allowed, valid};
 use crate::flag::both;
 use flat::types::FlatRecord;
 use flat::types::FlatSuperframe;
@@ -40,9 +40,9 @@ fn bond_len(bond: u8, count: u8) -> usize
     }
 }
 
-// The superframe block: 8, or 12 with a plan id.
+// The superframe block, if it is there: 8, or 12 with a plan id.
 fn superframe_len(there: u8, f: FlatSuperframe) -> usize
-    requires { ⌜ f .«beam_hopping_time_plan_selector» < 2 ⌝ }
+    requires { ⌜ allowed there (flags (blockFlags f)) ≡ true ⌝ }
     ensures { λ n. ⌜ (n ≡ sizes (superframeParts (someSuperframeIf (isOne there) (blockIn f)))) × (n ≤ 12) ⌝ }
 {
     if there == 1 {

@@ -6,6 +6,7 @@ use Prim.Native.Nat.{ℕ, _<_}
 use Rattle.wire.specs.Flags.{when, isOne, and, not}
 use Rattle.wire.proofs.Flags.{never, bit-is}
 use Rattle.s2xv2.specs.Options.{isSomeBool, some8If, some32If, someBoolIf}
+use Rattle.s2xv2.specs.Read.{only}
 use Rattle.s2xv2.specs.ListB.{wide}
 use Rattle.s2xv2.proofs.Lists.{narrow}
 use Rattle.s2xv2.specs.Encode.{topBit, scramblingParts, nibbleOf, planParts}
@@ -31,10 +32,10 @@ there-nibble false t v r e = refl
 
 -- ---- the top bit of byte 6
 
-pub top-is : (t : Bool) (s v : ℕ) → s < 2 → topBit (someBoolIf t (isOne s)) v ≡ when t s v
+pub top-is : (t : Bool) (s v : ℕ) → only t s < 2 → topBit (someBoolIf t (isOne s)) v ≡ when t s v
 top-is true s v h = bit-is s h
 top-is false s v h = refl
 
-pub top-small : (t : Bool) (s v : ℕ) → s < 2 → and (not (isSomeBool (someBoolIf t (isOne s)))) (wide 1 v) ≡ false → when t s v < 2
+pub top-small : (t : Bool) (s v : ℕ) → only t s < 2 → and (not (isSomeBool (someBoolIf t (isOne s)))) (wide 1 v) ≡ false → when t s v < 2
 top-small true s v h e = h
 top-small false s v h e = narrow 1 v e

@@ -1,5 +1,5 @@
 // The parts of a record as bytes. Each function stores its part from a place on and answers the place behind it; it requires room for the
-// part, that each flag is 0 or 1, and that list B found nothing in it.
+// part, that each flag that is there is 0 or 1, and that list B found nothing in it.
 ghost use mathlib.Core.List.{[], _∷_};
 ghost use mathlib.Core.Bool.{true, false};
 ghost use mathlib.Core.Path.{_≡_};
@@ -17,7 +17,7 @@ ghost use Rattle.s2xv2.specs.ListB.{wide, coreB, superframeB};
 ghost use Rattle.s2xv2.proofs.Lists.{Clear};
 ghost use Rattle.s2xv2.specs.declared.option.OptionU32.the-variants as O32;
 ghost use Rattle.s2xv2.specs.declared.superframe.OptionSuperframe.the-variants as OS;
-ghost use Rattle.flat_in.specs.Input.{blockIn, recordIn, valid, flags, blockFlags};
+ghost use Rattle.flat_in.specs.Input.{blockIn, recordIn, valid, flags, allowed, blockFlags};
 use crate::store::copy;
 use crate::store::put;
 use crate::store::put_24;
@@ -260,7 +260,7 @@ fn put_block(buf: &mut [u8], p: usize, f: FlatSuperframe) -> usize
 // The superframe block, if it is there.
 pub(crate) fn put_superframe(buf: &mut [u8], p: usize, there: u8, f: FlatSuperframe) -> usize
     requires { ⌜ p + sizes (superframeParts (someSuperframeIf (isOne there) (blockIn f))) ≤ length (now buf) ⌝ }
-    requires { ⌜ flags (blockFlags f) ≡ true ⌝ }
+    requires { ⌜ allowed there (flags (blockFlags f)) ≡ true ⌝ }
     requires { ⌜ Clear (superframeB (someSuperframeIf (isOne there) (blockIn f))) ⌝ }
     ensures { λ q. ⌜ (q ≡ p + sizes (superframeParts (someSuperframeIf (isOne there) (blockIn f)))) × (now (buf .exit) ≡ stored (now (buf .entry)) p (bytesOf (superframeParts (someSuperframeIf (isOne there) (blockIn f))) [])) ⌝ }
 {

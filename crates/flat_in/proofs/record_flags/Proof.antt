@@ -24,27 +24,15 @@ joined-requires-5 c κs = search needs
 joined-requires-6 : tie.Need-joined-requires-6
 joined-requires-6 c κs = search needs
 
-joined-requires-7 : tie.Need-joined-requires-7
-joined-requires-7 c κs = search needs
-
-joined-requires-8 : tie.Need-joined-requires-8
-joined-requires-8 c κs = search needs
-
-joined-requires-9 : tie.Need-joined-requires-9
-joined-requires-9 c κs = search needs
-
 returns : tie.Need-returns
 returns c =
     simp (
-      c .joined9 .ensures,
-      c .before .joined8 .ensures,
-      c .before .before .joined7 .ensures,
-      c .before .before .before .joined6 .ensures,
-      c .before .before .before .before .joined5 .ensures,
-      c .before .before .before .before .before .joined4 .ensures,
-      c .before .before .before .before .before .before .joined3 .ensures,
-      c .before .before .before .before .before .before .before .joined2 .ensures,
-      c .before .before .before .before .before .before .before .before .joined .ensures,
+      c .joined6 .ensures,
+      c .before .joined5 .ensures,
+      c .before .before .joined4 .ensures,
+      c .before .before .before .joined3 .ensures,
+      c .before .before .before .before .joined2 .ensures,
+      c .before .before .before .before .before .joined .ensures,
       joined-below 1,
       and-assoc,
       and-true,
@@ -60,7 +48,4 @@ record-flags-spec =
     joined-requires-4
     joined-requires-5
     joined-requires-6
-    joined-requires-7
-    joined-requires-8
-    joined-requires-9
     returns)

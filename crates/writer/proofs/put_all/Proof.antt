@@ -15,7 +15,7 @@ use Rattle.s2xv2.specs.Encode.{coreValues, streamOf, scramblingOf, timesliceOf,
 use Rattle.s2xv2.specs.declared.record.S2Xv2SatelliteDeliverySystem.{S2Xv2SatelliteDeliverySystem}
 use Rattle.s2xv2.proofs.Whole.{whole-byte, whole-scrambling, whole-bond, whole-superframe, encode-length, parts-split}
 use Rattle.flat_in.specs.Input.{recordIn}
-use Rattle.measure.proofs.Flags.{block-flags}
+use Rattle.measure.proofs.Flags.{block-allowed}
 use Rattle.writer.proofs.Laws.{Stored, store, toScrambling, toTimeslice, toBonds, toSuperframe, store-tail, clear-parts, scrambling-same, scrambling-narrow, bonds-given}
 use borrow.Author.Needs.{needs}
 use Rattle.writer.proofs.put_all.Statement.{statement}
@@ -138,7 +138,7 @@ put-superframe-requires c κs =
     let k = c .before .before .before .before in
     let start = start₅ k in (
       omega (arith, parts-split (of start), start .pre .0, bonds k .kept, simp sizes-append at (bonds k .place)),
-      (block-flags (start .args .t2) (start .pre .1 .0), clear-parts (of start) (start .pre .1 .1) .3),
+      (block-allowed (start .args .t2) (start .pre .1 .0), clear-parts (of start) (start .pre .1 .1) .3),
     )
 
 abbrev start₆ : tie.After-put-superframe → tie.Start

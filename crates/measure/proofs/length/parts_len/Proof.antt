@@ -6,7 +6,7 @@ use Rattle.s2xv2.proofs.Back.{is-selected}
 use Rattle.s2xv2.proofs.Whole.{parts-size}
 use Rattle.flat_in.specs.Input.{recordIn}
 use Rattle.flat_in.proofs.Back.{is-8}
-use Rattle.measure.proofs.Flags.{flagged, flagged-block, block-flags}
+use Rattle.measure.proofs.Flags.{flagged, block-allowed}
 use borrow.Author.Needs.{needs}
 use Rattle.measure.proofs.length.parts_len.Statement.{statement}
 use Rattle.measure.proofs.length.parts_len.Tie as tie
@@ -39,7 +39,7 @@ add-result-4 : tie.Need-add-result-4
 add-result-4 c = search needs
 
 superframe-len-requires : tie.Need-superframe-len-requires
-superframe-len-requires c κs = let start = c .before .before .before .before .before .before in flagged-block (start .args .c .superframe) (block-flags (start .args .c) (start .pre)) .hopping
+superframe-len-requires c κs = let start = c .before .before .before .before .before .before in block-allowed (start .args .c) (start .pre)
 
 add-result-5 : tie.Need-add-result-5
 add-result-5 c = search needs

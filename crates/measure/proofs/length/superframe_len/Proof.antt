@@ -3,7 +3,7 @@
 use native.Mathlib.Omega.{arith}
 use borrow.Author.Tests.{eq-eqb, ne-eqb}
 use Rattle.s2xv2.specs.Encode.{superframeParts}
-use Rattle.measure.proofs.Flags.{block-size}
+use Rattle.measure.proofs.Flags.{flagged-block, block-there, block-size}
 use borrow.Author.Needs.{needs}
 use Rattle.measure.proofs.length.superframe_len.Statement.{statement}
 use Rattle.measure.proofs.length.superframe_len.Tie as tie
@@ -19,7 +19,10 @@ add-result c = search needs
 
 returns : tie.Need-returns
 unfolding superframeParts
-returns c = rw (eq-eqb _ _ (c .before .if1 .taken)) (block-size (c .before .before .args .f) (c .before .before .pre), omega (arith, c .before .before .pre))
+returns c =
+    let f = c .before .before .args .f in
+    let h = flagged-block f (block-there _ f (c .before .if1 .taken) (c .before .before .pre)) .hopping in
+    rw (eq-eqb _ _ (c .before .if1 .taken)) (block-size f h, omega arith)
 
 returns-2 : tie.Need-returns-2
 unfolding superframeParts

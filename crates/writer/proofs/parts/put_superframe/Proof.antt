@@ -5,6 +5,7 @@ use native.Mathlib.Nat.{add-zero}
 use Rattle.wire.specs.Store.{stored}
 use borrow.Author.Tests.{eq-eqb, ne-eqb}
 use Rattle.s2xv2.specs.Encode.{superframeParts}
+use Rattle.measure.proofs.Flags.{block-there}
 use borrow.Author.Needs.{needs}
 use Rattle.writer.proofs.parts.put_superframe.Statement.{statement}
 use Rattle.writer.proofs.parts.put_superframe.Tie as tie
@@ -14,7 +15,7 @@ unfolding superframeParts
 put-block-requires c κs =
     let start = c .before .before .before in
     let e = eq-eqb _ _ (c .before .if1 .taken) in
-    (rw e at (start .pre .0), (start .pre .1 .0, rw e at (start .pre .1 .1)))
+    (rw e at (start .pre .0), (block-there _ (start .args .f) (c .before .if1 .taken) (start .pre .1 .0), rw e at (start .pre .1 .1)))
 
 same-length : tie.Need-same-length
 same-length c = search needs
