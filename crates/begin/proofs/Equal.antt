@@ -3,9 +3,9 @@
 use mathlib.Core.Path.{_≡_, sym, ap, _∙_}
 use mathlib.Core.List.{List}
 use Prim.Native.Nat.{ℕ}
-use Rattle.s2xv2.specs.declared.answer.Answer.{Answer}
+use Rattle.answers.specs.declared.answer.Answer.{Answer}
 use Rattle.s2xv2.specs.declared.record.S2Xv2SatelliteDeliverySystem.{S2Xv2SatelliteDeliverySystem}
-use Rattle.s2xv2.proofs.Answers.{same-told}
+use Rattle.answers.proofs.Answers.{same-told}
 use Rattle.begin.specs.declared.Begun.{Begun}
 use Rattle.begin.specs.Begin.{Begins, begunSeen, beginOf}
 

@@ -10,15 +10,14 @@ use lib.ListN.{length}
 use lib.Dec.{ltb}
 use Rattle.wire.specs.Flags.{when}
 use Rattle.s2xv2.specs.declared.record.S2Xv2SatelliteDeliverySystem.{S2Xv2SatelliteDeliverySystem}
-use Rattle.s2xv2.specs.declared.answer.Refusal.{Refusal}
-use Rattle.s2xv2.specs.Answer.{numbers, saturated}
-use Rattle.s2xv2.specs.Read.{numberOf}
+use Rattle.answers.specs.declared.answer.Refusal.{Refusal}
+use Rattle.answers.specs.Answer.{numbers, saturated, numberOf}
 use Rattle.s2xv2.specs.Encode.{encodedLength}
 use Rattle.s2xv2.specs.ListA.{inconsistency}
 use Rattle.s2xv2.specs.ListB.{unwritable}
 use Rattle.s2xv2.specs.Length.{lengthTold}
 use Rattle.s2xv2.specs.Write.{writeTold}
-use Rattle.s2xv2.proofs.Reach.{refused-number}
+use Rattle.answers.proofs.Answers.{refused-number}
 use Rattle.form.specs.Form.{goodForm}
 use Rattle.job.specs.declared.job.Job.{Job}
 use Rattle.job.proofs.Fairness.{facts-fits, not-fits}

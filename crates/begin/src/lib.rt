@@ -2,15 +2,15 @@
 ghost use mathlib.Core.Path.{_≡_};
 ghost use mathlib.Core.List.{[], _∷_};
 ghost use Prim.Native.Nat.{_+_, _≤_};
-ghost use Rattle.s2xv2.specs.Answer.{numbers};
+ghost use Rattle.answers.specs.Answer.{numbers};
 ghost use Rattle.job.specs.Job.{jobOf};
 ghost use Rattle.begin.specs.Begin.{Sized, noJob, fitTold, stageTold, begunSeen, answered, beginOf};
 use form::envelope::EXTENSION;
 use form::envelope::TAG;
 use form::good::in_form;
 use job::job::Job;
-use s2xv2::answer::Answer;
-use s2xv2::answer::Refusal;
+use answers::answer::Answer;
+use answers::answer::Refusal;
 use s2xv2::record::S2Xv2SatelliteDeliverySystem;
 
 // The answer, and the job: where begin is refused all of its bytes and numbers are 0, and step refuses it.
@@ -68,7 +68,7 @@ fn stage(n: usize, d: usize, r: S2Xv2SatelliteDeliverySystem, reserved_tail: &[u
     staged[0] = TAG;
     staged[1] = (d - 2) as u8;
     staged[2] = EXTENSION;
-    let answer = writer::serialize_into(r, reserved_tail, &mut staged[3..]);
+    let answer = s2xv2_writer::serialize_into(r, reserved_tail, &mut staged[3..]);
     match answer {
         Answer::Accepted(_) => accepted(staged, n, d),
         Answer::Refused(why) => refused(why),
@@ -95,7 +95,7 @@ pub fn begin(slot: &[u8], r: S2Xv2SatelliteDeliverySystem, reserved_tail: &[u8])
     ensures { λ b. ⌜ begunSeen b ≡ beginOf (now (slot .entry)) r (now («reserved_tail» .entry)) ⌝ }
 {
     if in_form(slot) {
-        let answer = measure::serialized_len(r, reserved_tail);
+        let answer = s2xv2_measure::serialized_len(r, reserved_tail);
         match answer {
             Answer::Accepted(length) => fit(slot.len(), length + 3, r, reserved_tail),
             Answer::Refused(why) => refused(why),

@@ -1,7 +1,7 @@
 -- The two clauses of `s2xv2_begin` leave no choice: one fixes the answer and the other the job, and there is nothing else.
 -- Assumes nothing.
 use mathlib.Core.Path.{_≡_, sym, ap₂, _∙_}
-use Rattle.flat.specs.declared.types.FlatAnswer.{FlatAnswer}
+use Rattle.s2xv2_flat.specs.declared.types.FlatAnswer.{FlatAnswer}
 use Rattle.job.specs.declared.job.Job.{Job}
 use Rattle.capi.specs.declared.jobs.FlatBegun.{FlatBegun}
 

@@ -1,16 +1,17 @@
--- A tail as a part of what was lent: `cut` gives the bytes of a part. `tailPart` is the tail of a body, `toldPart` the part that a slot's answer tells, `slotPart` the tail of
+-- A tail as a part of what was lent: `partIn` gives the bytes of a part. `tailPart` is the tail of a body, `toldPart` the part that a slot's answer tells, `slotPart` the tail of
 -- the record in a slot; all are the part of no bytes at the start, `noPart`, where there is no record. Assumes nothing.
 use Prim.Native.Nat.{ℕ, _-_}
 use mathlib.Core.List.{List}
 use lib.ListN.{length, take, drop, getD}
 use lib.Dec.{eqb}
 use Rattle.wire.specs.Flags.{when}
-use Rattle.s2xv2.specs.Read.{numberOf, readTold, bodySize}
+use Rattle.answers.specs.Answer.{numberOf}
+use Rattle.s2xv2.specs.Read.{readTold, bodySize}
 use Rattle.slot.specs.Read.{shown}
-use Rattle.flat.specs.declared.types.FlatPart.{FlatPart}
+use Rattle.s2xv2_flat.specs.declared.types.FlatPart.{FlatPart}
 
-abbrev pub cut : FlatPart → List ℕ → List ℕ
-cut p s = take (p .length) (drop (p .place) s)
+abbrev pub partIn : FlatPart → List ℕ → List ℕ
+partIn p s = take (p .length) (drop (p .place) s)
 
 abbrev pub noPart : FlatPart
 noPart = record { place = 0; length = 0 }

@@ -2,18 +2,18 @@
 ghost use mathlib.Core.Path.{_≡_};
 ghost use lib.ListN.{length};
 ghost use Rattle.wire.specs.Flags.{when};
-ghost use Rattle.flat.specs.Output.{answerOut};
-ghost use Rattle.flat_in.specs.Input.{recordIn, valid, foreign};
+ghost use Rattle.s2xv2_flat.specs.Output.{answerOut};
+ghost use Rattle.s2xv2_flat_in.specs.Input.{meant, valid, foreign};
 ghost use Rattle.job.specs.Step.{stepTold, stepOf, slotAfter};
 ghost use Rattle.begin.specs.Begin.{noJob, beginOf};
 ghost use Rattle.job.specs.Job.{jobOf};
 ghost use Rattle.capi.specs.Job.{numberIn, advancedOut, steppedOut, movedOut};
-use flat::output::answer_out;
-use flat::types::FOREIGN;
-use flat::types::FlatAnswer;
-use flat::types::FlatRecord;
-use flat_in::is_valid;
-use flat_in::record_in;
+use s2xv2_flat::output::answer_out;
+use s2xv2_flat::types::FOREIGN;
+use s2xv2_flat::types::FlatAnswer;
+use s2xv2_flat::types::FlatRecord;
+use s2xv2_flat_in::is_valid;
+use s2xv2_flat_in::record_in;
 use job::job::Job;
 use job::job::StepAnswer;
 use wire::field::bit_of;
@@ -43,8 +43,8 @@ pub struct FlatStepped {
 // `begin::begin` of the library. Refuses with 100 what no record could hold. Stores nothing.
 #[no_mangle]
 pub extern "C" fn s2xv2_begin(s: &[u8], r: FlatRecord, reserved_tail: &[u8]) -> FlatBegun
-    ensures answer { λ b. ⌜ b .answer ≡ when (valid r) (answerOut (beginOf (now (s .entry)) (recordIn r) (now («reserved_tail» .entry)) .told)) foreign ⌝ }
-    ensures job { λ b. ⌜ b .job ≡ when (valid r) (beginOf (now (s .entry)) (recordIn r) (now («reserved_tail» .entry)) .job) noJob ⌝ }
+    ensures answer { λ b. ⌜ b .answer ≡ when (valid r) (answerOut (beginOf (now (s .entry)) (meant r) (now («reserved_tail» .entry)) .told)) foreign ⌝ }
+    ensures job { λ b. ⌜ b .job ≡ when (valid r) (beginOf (now (s .entry)) (meant r) (now («reserved_tail» .entry)) .job) noJob ⌝ }
 {
     if is_valid(r) {
         let begun = begin::begin(s, record_in(r), reserved_tail);

@@ -4,14 +4,14 @@ ghost use lib.ListN.{length};
 ghost use Rattle.slot.specs.Answer.{slotTold};
 ghost use Rattle.slot.specs.Read.{shown};
 ghost use Rattle.slot.specs.Empty.{emptyTold, emptied};
-ghost use Rattle.flat.specs.Output.{answerOut, recordOut};
-ghost use Rattle.capi.specs.Part.{toldPart, slotPart, cut};
-use flat::output::answer_of;
-use flat::output::record_out;
-use flat::output::refusal_out;
-use flat::types::FlatAnswer;
-use flat::types::FlatParsed;
-use flat::types::FlatPart;
+ghost use Rattle.s2xv2_flat.specs.Output.{answerOut, recordOut};
+ghost use Rattle.capi.specs.Part.{toldPart, slotPart, partIn};
+use s2xv2_flat::output::answer_of;
+use s2xv2_flat::output::record_out;
+use s2xv2_flat::output::refusal_out;
+use s2xv2_flat::types::FlatAnswer;
+use s2xv2_flat::types::FlatParsed;
+use s2xv2_flat::types::FlatPart;
 use slot::answer::SlotAnswer;
 
 // An answer about a slot: accepted with the tail's place and length, 0 and 0 for an empty slot, or the refusal.
@@ -59,7 +59,7 @@ fn slot_part(answer: SlotAnswer) -> FlatPart
 // `slot::read::reserved_tail` of the library: where the tail of the record stands in the slot, or the empty part at its start where there is none.
 #[no_mangle]
 pub extern "C" fn s2xv2_slot_reserved_tail(s: &[u8]) -> FlatPart
-    ensures { λ r. ⌜ (r ≡ slotPart (now (s .entry))) × (cut r (now (s .entry)) ≡ shown (now (s .entry)) .tail) ⌝ }
+    ensures { λ r. ⌜ (r ≡ slotPart (now (s .entry))) × (partIn r (now (s .entry)) ≡ shown (now (s .entry)) .tail) ⌝ }
 {
     let answer = slot::read::read(s).answer;
     slot_part(answer)

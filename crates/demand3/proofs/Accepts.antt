@@ -11,9 +11,8 @@ use lib.Dec.{ltb}
 use Rattle.wire.specs.Flags.{when}
 use Rattle.wire.specs.Widths.{Bytes}
 use Rattle.s2xv2.specs.declared.record.S2Xv2SatelliteDeliverySystem.{S2Xv2SatelliteDeliverySystem}
-use Rattle.s2xv2.specs.Answer.{saturated}
+use Rattle.answers.specs.Answer.{saturated, numberOf}
 use Rattle.s2xv2.specs.Held.{Held}
-use Rattle.s2xv2.specs.Read.{numberOf}
 use Rattle.s2xv2.specs.Encode.{encodedLength}
 use Rattle.s2xv2.specs.ListA.{inconsistency}
 use Rattle.s2xv2.specs.ListB.{unwritable}

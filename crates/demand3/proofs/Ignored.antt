@@ -9,7 +9,7 @@ use lib.Dec.{eqb}
 use borrow.Author.Tests.{eqb-true}
 use Rattle.wire.specs.Flags.{when}
 use Rattle.s2xv2.specs.declared.record.S2Xv2SatelliteDeliverySystem.{S2Xv2SatelliteDeliverySystem}
-use Rattle.s2xv2.specs.Read.{numberOf}
+use Rattle.answers.specs.Answer.{numberOf}
 use Rattle.s2xv2.specs.Carried.{carried}
 use Rattle.s2xv2.proofs.Ignored.{same-inconsistency, same-length, same-unwritable, same-encode}
 use Rattle.job.specs.declared.job.Job.{Job}

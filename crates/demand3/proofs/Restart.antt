@@ -12,7 +12,7 @@ use lib.Dec.{eqb}
 use borrow.Author.Tests.{eqb-true}
 use Rattle.s2xv2.specs.declared.record.S2Xv2SatelliteDeliverySystem.{S2Xv2SatelliteDeliverySystem}
 use Rattle.s2xv2.specs.Encode.{encode}
-use Rattle.s2xv2.specs.Read.{numberOf}
+use Rattle.answers.specs.Answer.{numberOf}
 use Rattle.stores.proofs.Laws.{run-length}
 use Rattle.form.specs.Envelope.{holding}
 use Rattle.form.specs.Form.{goodForm}

@@ -24,7 +24,7 @@ use Rattle.job.specs.Job.{fitsIn}
 use Rattle.begin.specs.Begin.{sizeOf, descriptorOf}
 
 -- a slot in good form, a record that lists A and B pass, and a descriptor that fits; `held` and `bytes` are what the types say,
--- and `typed::is_held` and `typed::are_bytes` give them for any record and any tail
+-- and `s2xv2_typed::is_held` and `s2xv2_typed::are_bytes` give them for any record and any tail
 pub record Ready (s : List ℕ) (r : S2Xv2SatelliteDeliverySystem) (tail : List ℕ) : Type 0 where
   pub form : goodForm s ≡ true
   pub consistent : inconsistency r ≡ 0

@@ -54,13 +54,13 @@ fn word(out: &mut [u8], at: usize, n: u64) -> usize
 }
 
 // Some numbers, one after the other, a space before each. Of a number from 10^10 on only the last ten digits are put.
-pub fn words(out: &mut [u8], at: usize, numbers: &[u64]) -> usize
+pub fn words(out: &mut [u8], at: usize, numbers: &[usize]) -> usize
     ensures { λ r. ⌜ Wrote (now (out .entry) from at) (wordsOf (now (numbers .entry))) (now (out .exit) from r) ⌝ }
 {
     let mut next = at;
     let mut i = 0;
     while i < numbers.len() {
-        next = word(out, next, numbers[i]);
+        next = word(out, next, numbers[i] as u64);
         i += 1;
     }
     next

@@ -26,21 +26,21 @@ fn clear(out: &mut [u8]) {
 
 // What the reader answers.
 fn answer_to(body: &[u8]) -> [u32; 5] {
-    let read = reader::parse(body);
+    let read = s2xv2_reader::parse(body);
     let answer = read.answer;
     told(answer)
 }
 
 // The record that the reader shows.
 fn put_body(d: u64, body: &[u8]) -> u64 {
-    let read = reader::parse(body);
+    let read = s2xv2_reader::parse(body);
     let record = read.body;
     put_record(d, record)
 }
 
 // The tail: its length and its bytes.
 fn put_tail(d: u64, body: &[u8]) -> u64 {
-    let tail = reader::reserved_tail(body);
+    let tail = s2xv2_reader::reserved_tail(body);
     put_bytes(put(d, (tail.len() % 4_294_967_296) as u32), tail)
 }
 
@@ -52,11 +52,11 @@ fn put_reading(d: u64, body: &[u8]) -> u64 {
 
 // What was read is written back.
 fn back(body: &[u8], out: &mut [u8]) -> [u32; 5] {
-    let read = reader::parse(body);
+    let read = s2xv2_reader::parse(body);
     let record = read.body;
-    let tail = reader::reserved_tail(body);
+    let tail = s2xv2_reader::reserved_tail(body);
     clear(out);
-    let answer = writer::serialize_into(record, tail, out);
+    let answer = s2xv2_writer::serialize_into(record, tail, out);
     told(answer)
 }
 
@@ -112,7 +112,7 @@ pub(crate) fn answer_to_made(body: &[u8], made: usize) -> [u32; 5] {
 // What the length call answers.
 fn measured(v: &[u32; 45], tail: &[u8]) -> [u32; 5] {
     let r = record(v);
-    let answer = measure::serialized_len(r, tail);
+    let answer = s2xv2_measure::serialized_len(r, tail);
     told(answer)
 }
 
@@ -120,7 +120,7 @@ fn measured(v: &[u32; 45], tail: &[u8]) -> [u32; 5] {
 fn written(v: &[u32; 45], tail: &[u8], out: &mut [u8]) -> [u32; 5] {
     let r = record(v);
     clear(out);
-    let answer = writer::serialize_into(r, tail, out);
+    let answer = s2xv2_writer::serialize_into(r, tail, out);
     told(answer)
 }
 

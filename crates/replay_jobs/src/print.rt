@@ -1,8 +1,8 @@
 // What is printed.
 use job::job::Job;
 use job::job::StepAnswer;
-use s2xv2::answer::Answer;
-use s2xv2::answer::Refusal;
+use answers::answer::Answer;
+use answers::answer::Refusal;
 
 // Prints a text and a number.
 pub(crate) fn word(text: &[u8], n: u32) {

@@ -8,8 +8,8 @@ use crate::sample::put_bytes;
 use crate::sample::put_size;
 use job::job::Job;
 use job::job::Stepped;
-use s2xv2::answer::Answer;
-use s2xv2::answer::Refusal;
+use answers::answer::Answer;
+use answers::answer::Refusal;
 use s2xv2::record::S2Xv2SatelliteDeliverySystem;
 use slot::answer::SlotAnswer;
 
@@ -33,9 +33,9 @@ pub(crate) fn begin_told(d: u32, slot: &[u8], body: &[u8]) -> u32 {
 
 // What begin answers for the record and tail of a body.
 fn begun(slot: &[u8], body: &[u8]) -> Answer {
-    let read = reader::parse(body);
+    let read = s2xv2_reader::parse(body);
     let record = read.body;
-    let tail = reader::reserved_tail(body);
+    let tail = s2xv2_reader::reserved_tail(body);
     let b = begin::begin(slot, record, tail);
     b.answer
 }
@@ -51,9 +51,9 @@ pub(crate) fn begin_cell(slot: &[u8], body: &[u8]) -> usize {
 
 // The job that begin gives for them.
 fn job_for(slot: &[u8], body: &[u8]) -> Job {
-    let read = reader::parse(body);
+    let read = s2xv2_reader::parse(body);
     let record = read.body;
-    let tail = reader::reserved_tail(body);
+    let tail = s2xv2_reader::reserved_tail(body);
     let b = begin::begin(slot, record, tail);
     b.job
 }

@@ -7,7 +7,8 @@ use Prim.Native.Nat.{ℕ, _+_, _≤_, _<_}
 use native.Mathlib.Nat.{add-zero}
 use native.Mathlib.Omega.{arith}
 use lib.ListN.{length, getD, drop}
-use Rattle.wire.specs.Flags.{when, bit, isOne, and}
+use Rattle.answers.proofs.Options.{is-selected}
+use Rattle.wire.specs.Flags.{when, bit, isOne, and, only}
 use Rattle.wire.specs.Widths.{cut, pack, Bytes}
 use Rattle.wire.specs.Parts.{Part, _⦂_, bytesOf}
 use Rattle.wire.proofs.Cut.{fit-cut}
@@ -15,8 +16,9 @@ use Rattle.wire.proofs.Parts.{bytesOf-append, found}
 use Rattle.wire.proofs.Flags.{bit-is}
 use Rattle.s2xv2.specs.Table144b as T
 use Rattle.s2xv2.specs.Table144c.{modeOf, hasSelector}
-use Rattle.s2xv2.specs.Options.{selected, someBoolIf, some8If, someSuperframeIf}
-use Rattle.s2xv2.specs.Read.{Present, presentIn, only, streamEnd, scramblingEnd, timesliceEnd, hasSecond, bondSize, bondEnd, hasPlan, superframeSize, superframeEnd, bodySize, planAt, superframeAt, byteAt, reserved6At, indexAt, reserved7At, countIf, firstIdAt, secondIdAt, recordAt, recordIn}
+use Rattle.answers.specs.Options.{selected, someBoolIf, some8If}
+use Rattle.s2xv2.specs.OptionSuperframe.{someSuperframeIf}
+use Rattle.s2xv2.specs.Read.{Present, presentIn, streamEnd, scramblingEnd, timesliceEnd, hasSecond, bondSize, bondEnd, hasPlan, superframeSize, superframeEnd, bodySize, planAt, superframeAt, streamIdAt, reserved6At, indexAt, reserved7At, countIf, firstIdAt, secondIdAt, recordAt, recordIn}
 use Rattle.s2xv2.specs.Encode.{topBit, coreValues, byteParts, scramblingParts, bondParts, nibbleOf, superframeValues, planParts, superframeParts, partsOf, encode}
 use Rattle.s2xv2.specs.declared.superframe.OptionSuperframe.the-variants as OS
 use Rattle.s2xv2.proofs.Modes.{code-mode}
@@ -26,10 +28,6 @@ use Rattle.s2xv2.proofs.Modes.{code-mode}
 top-back : (has : Bool) (x : ℕ) → x < 2 → topBit (someBoolIf has (isOne x)) (when has 0 x) ≡ x
 top-back true x h = bit-is x h
 top-back false x h = refl
-
-pub is-selected : (has b : Bool) → selected (someBoolIf has b) ≡ and has b
-is-selected true b = refl
-is-selected false b = refl
 
 pub nibble-back : (t : Bool) (x : ℕ) → nibbleOf t (some8If t x) (when t 0 x) ≡ x
 nibble-back true x = refl
@@ -63,7 +61,7 @@ module _ (s : List ℕ) (y : Bytes s) where
       let f = fit-cut s p T.superframe refl y in
       simp (bit-is _ (f .1 .0), bit-is _ (f .1 .1 .0), nibble-back)
 
-  byte-encodes : (p : ℕ) (t : Bool) → p + only t 1 ≤ length s → drop p s ≡ bytesOf (byteParts (8 ∷ []) (byteAt s p t)) (drop (p + only t 1) s)
+  byte-encodes : (p : ℕ) (t : Bool) → p + only t 1 ≤ length s → drop p s ≡ bytesOf (byteParts (8 ∷ []) (streamIdAt s p t)) (drop (p + only t 1) s)
   unfolding byteParts
   byte-encodes p true h = found s p (8 ∷ []) refl y h
   byte-encodes p false h = rw (add-zero p)
@@ -138,13 +136,13 @@ module _ (s : List ℕ) (y : Bytes s) where
   then p q l ps qs e₁ e₂ = e₁ ∙ ap (bytesOf ps) e₂ ∙ sym (bytesOf-append ps qs l)
 
   abbrev streamRead : Present → List Part
-  streamRead k = byteParts (8 ∷ []) (byteAt s 18 (k .stream))
+  streamRead k = byteParts (8 ∷ []) (streamIdAt s 18 (k .stream))
 
   abbrev scramblingRead : Bool → Present → List Part
   scramblingRead t k = scramblingParts t (reserved6At s (streamEnd k) (k .scrambling)) (indexAt s (streamEnd k) (k .scrambling))
 
   abbrev timesliceRead : Present → List Part
-  timesliceRead k = byteParts (8 ∷ []) (byteAt s (scramblingEnd k) (k .timeslice))
+  timesliceRead k = byteParts (8 ∷ []) (streamIdAt s (scramblingEnd k) (k .timeslice))
 
   abbrev bondRead : Present → List Part
   bondRead k =

@@ -8,12 +8,13 @@ use mathlib.Core.Bool.{Bool, true, false}
 use Prim.Native.Nat.{ℕ, _+_, _≤_, _<_}
 use native.Mathlib.Omega.{arith}
 use lib.ListN.{length, drop}
-use Rattle.wire.specs.Flags.{when, isOne}
+use Rattle.wire.specs.Flags.{when, isOne, only}
 use Rattle.wire.specs.Bits.{bits}
 use Rattle.wire.specs.Widths.{Bytes}
 use Rattle.wire.specs.Parts.{sizes}
 use Rattle.s2xv2.specs.Table144c.{hasSelector}
-use Rattle.s2xv2.specs.Read.{only, presentIn, streamEnd, timesliceEnd, superframeAt, bodySize, recordIn, numberOf, readTold, readOf, tailOf}
+use Rattle.s2xv2.specs.Read.{presentIn, streamEnd, timesliceEnd, superframeAt, bodySize, recordIn, readTold, readOf, tailOf}
+use Rattle.answers.specs.Answer.{numberOf}
 use Rattle.s2xv2.specs.Encode.{partsOf, encode, encodedLength}
 use Rattle.s2xv2.specs.ListA.{inconsistency}
 use Rattle.s2xv2.specs.ListB.{unwritable}

@@ -8,22 +8,23 @@ use native.Mathlib.Omega.{arith}
 use lib.Dec.{ltb}
 use lib.Pow.{pow-pos}
 use borrow.Author.Tests.{lt-leb}
-use Rattle.wire.specs.Flags.{when, isOne, and, not, differ}
+use Rattle.wire.specs.Flags.{when, isOne, and, not, differ, only}
 use Rattle.wire.specs.Bits.{bits}
-use Rattle.wire.specs.Widths.{Bytes}
+use Rattle.wire.specs.Widths.{Bytes, wide}
 use Rattle.wire.proofs.Cut.{fit-cut}
 use Rattle.s2xv2.specs.Table144b as T
 use Rattle.s2xv2.specs.Table144c.{modeOf, hasSelector}
-use Rattle.s2xv2.specs.Options.{isSomeBool, isSome8, isSome32, isSomeSuperframe, selected, orZero8, orZero32, someBoolIf, some8If, some32If, someSuperframeIf}
-use Rattle.s2xv2.specs.Read.{Present, presentIn, only, streamEnd, scramblingEnd, timesliceEnd, hasSecond, bondEnd, hasPlan, superframeAt, countIf, recordAt, recordIn}
-use Rattle.s2xv2.specs.Encode.{lessOne}
+use Rattle.answers.specs.Options.{isSomeBool, isSome8, isSome32, selected, orZero8, orZero32, someBoolIf, some8If, some32If}
+use Rattle.s2xv2.specs.OptionSuperframe.{isSomeSuperframe, someSuperframeIf}
+use Rattle.s2xv2.specs.Read.{Present, presentIn, streamEnd, scramblingEnd, timesliceEnd, hasSecond, bondEnd, hasPlan, superframeAt, countIf, recordAt, recordIn}
+use Rattle.wire.specs.Count.{lessOne}
 use Rattle.s2xv2.specs.ListA.{inSuperframe, listA, inconsistency}
-use Rattle.s2xv2.specs.ListB.{wide, superframeB, listB, unwritable}
+use Rattle.s2xv2.specs.ListB.{superframeB, listB, unwritable}
 use Rattle.s2xv2.specs.Carried.{carriedSuperframe, carriedId, carried}
 use Rattle.s2xv2.specs.Held.{HeldSuperframe, Held}
 use Rattle.s2xv2.specs.declared.superframe.S2Xv2Superframe.{S2Xv2Superframe}
 use Rattle.s2xv2.proofs.Modes.{code-mode, mode-named}
-use Rattle.s2xv2.proofs.Lists.{Clear, clear-first}
+use Rattle.answers.proofs.Tests.{Clear, clear-first}
 use Rattle.s2xv2.proofs.Back.{nibble-back}
 
 -- ---- tests that fail

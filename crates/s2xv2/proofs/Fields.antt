@@ -7,15 +7,15 @@ use mathlib.Core.Bool.{Bool, true, false}
 use Prim.Native.Nat.{ℕ, _+_}
 use lib.ListN.{getD}
 use lib.Dec.{eqb}
-use Rattle.wire.specs.Flags.{when, isOne, and}
+use Rattle.wire.specs.Flags.{when, isOne, and, only}
 use Rattle.wire.specs.Bits.{bits}
 use Rattle.s2xv2.specs.Table144c.{modeOf, codeOf, hasSelector, hasTimeslice, hasSuperframe}
-use Rattle.s2xv2.specs.Read.{only, presentIn, streamEnd, scramblingEnd, timesliceEnd, bondEnd, bodySize, superframeAt, recordAt, recordIn}
+use Rattle.s2xv2.specs.Read.{presentIn, streamEnd, scramblingEnd, timesliceEnd, bondEnd, bodySize, superframeAt, recordAt, recordIn}
 use Rattle.s2xv2.proofs.Modes.{code-mode}
 use Rattle.s2xv2.specs.declared.superframe.OptionSuperframe.the-variants as OS
-use Rattle.s2xv2.specs.declared.option.OptionBool.the-variants as OB
-use Rattle.s2xv2.specs.declared.option.OptionU8.the-variants as O8
-use Rattle.s2xv2.specs.declared.option.OptionU32.the-variants as O32
+use Rattle.answers.specs.declared.option.OptionBool.the-variants as OB
+use Rattle.answers.specs.declared.option.OptionU8.the-variants as O8
+use Rattle.answers.specs.declared.option.OptionU32.the-variants as O32
 
 module _ (s : List ℕ) where
   -- The core, bytes 0 to 17.

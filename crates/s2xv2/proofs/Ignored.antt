@@ -9,27 +9,31 @@ use native.Mathlib.Omega.{arith}
 use lib.ListN.{length, drop, getD}
 use lib.Dec.{eqb}
 use borrow.Author.Tests.{eqb-true}
-use Rattle.wire.specs.Flags.{when, and, not}
+use Rattle.wire.specs.Flags.{when, and, not, only}
 use Rattle.wire.specs.Parts.{Part, _⦂_, sizes, bytesOf}
 use Rattle.s2xv2.specs.Table144b as T
-use Rattle.s2xv2.specs.Options.{isSomeBool, selected}
-use Rattle.s2xv2.specs.Read.{only, numberOf}
-use Rattle.s2xv2.specs.Encode.{topBit, coreValues, nibbleOf, idParts, scramblingParts, bondParts, superframeParts, lessOne, streamOf, scramblingOf, timesliceOf, bondOf, superframeOf, partsOf, encode, encodedLength}
-use Rattle.s2xv2.specs.ListA.{firstFrom, partsA, superframeA, inconsistency}
-use Rattle.s2xv2.specs.ListB.{wide, coreB, scramblingB, bondB, superframeB, listB, unwritable}
+use Rattle.answers.specs.Options.{isSomeBool, selected}
+use Rattle.answers.specs.Answer.{numberOf}
+use Rattle.s2xv2.specs.Encode.{topBit, coreValues, nibbleOf, idParts, scramblingParts, bondParts, superframeParts, streamOf, scramblingOf, timesliceOf, bondOf, superframeOf, partsOf, encode, encodedLength}
+use Rattle.wire.specs.Count.{lessOne}
+use Rattle.answers.specs.Tests.{firstFrom}
+use Rattle.s2xv2.specs.ListA.{partsA, superframeA, inconsistency}
+use Rattle.wire.specs.Widths.{wide}
+use Rattle.s2xv2.specs.ListB.{coreB, scramblingB, bondB, superframeB, listB, unwritable}
 use Rattle.s2xv2.specs.Length.{lengthTold}
 use Rattle.s2xv2.specs.Write.{writeTold, written}
 use Rattle.s2xv2.specs.Carried.{carriedId, carriedSuperframe, carried}
-use Rattle.s2xv2.proofs.Lists.{first-clear, narrow}
+use Rattle.answers.proofs.Tests.{first-clear}
+use Rattle.wire.proofs.Wide.{narrow}
 use Rattle.s2xv2.proofs.Whole.{parts-size}
 use Rattle.s2xv2.proofs.Written.{accepted-writable}
 use Rattle.s2xv2.specs.declared.record.S2Xv2SatelliteDeliverySystem.{S2Xv2SatelliteDeliverySystem}
 use Rattle.s2xv2.specs.declared.superframe.OptionSuperframe.{OptionSuperframe}
 use Rattle.s2xv2.specs.declared.superframe.OptionSuperframe.the-variants as OS
-use Rattle.s2xv2.specs.declared.option.OptionBool.{OptionBool}
-use Rattle.s2xv2.specs.declared.option.OptionBool.the-variants as OB
-use Rattle.s2xv2.specs.declared.option.OptionU8.{OptionU8}
-use Rattle.s2xv2.specs.declared.option.OptionU32.{OptionU32}
+use Rattle.answers.specs.declared.option.OptionBool.{OptionBool}
+use Rattle.answers.specs.declared.option.OptionBool.the-variants as OB
+use Rattle.answers.specs.declared.option.OptionU8.{OptionU8}
+use Rattle.answers.specs.declared.option.OptionU32.{OptionU32}
 
 -- ---- a value that is not looked at
 

@@ -1,5 +1,4 @@
 pub mod Modes
-pub mod Answers
 pub mod Reach
 pub mod Sizes
 pub mod Fields

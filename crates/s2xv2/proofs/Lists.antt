@@ -10,17 +10,22 @@ use native.Mathlib.Nat.{add-zero}
 use lib.ListN.{length, getD}
 use lib.Dec.{eqb, ltb}
 use borrow.Author.Tests.{ltb-false, leb-false, ne-eqb}
+use Rattle.answers.proofs.Tests.{Clear}
+use Rattle.wire.proofs.Wide.{narrow, narrow-if}
 use Rattle.wire.specs.Flags.{when, and, not, differ}
-use Rattle.wire.specs.Widths.{Fit}
+use Rattle.wire.specs.Widths.{Fit, wide}
 use Rattle.wire.specs.Parts.{_⦂_, AllFit}
 use Rattle.wire.proofs.Parts.{fit-append}
 use Rattle.wire.proofs.Flags.{bit-small}
 use Rattle.s2xv2.specs.Table144b as T
 use Rattle.s2xv2.specs.Table144c.{modeOf, codeOf, hasSelector, hasTimeslice, hasSuperframe}
-use Rattle.s2xv2.specs.Options.{isSomeBool, isSome8, isSome32, isSomeSuperframe, selected, orZero8, orZero32}
-use Rattle.s2xv2.specs.Encode.{topBit, coreValues, byteParts, scramblingParts, lessOne, bondParts, superframeEndValues, planParts, superframeParts, streamOf, scramblingOf, timesliceOf, bondOf, superframeOf, partsOf}
-use Rattle.s2xv2.specs.ListA.{firstFrom, misnamed, inSuperframe, listA}
-use Rattle.s2xv2.specs.ListB.{wide, superframeB, listB}
+use Rattle.answers.specs.Options.{isSomeBool, isSome8, isSome32, selected, orZero8, orZero32}
+use Rattle.s2xv2.specs.OptionSuperframe.{isSomeSuperframe}
+use Rattle.s2xv2.specs.Encode.{topBit, coreValues, byteParts, scramblingParts, bondParts, superframeEndValues, planParts, superframeParts, streamOf, scramblingOf, timesliceOf, bondOf, superframeOf, partsOf}
+use Rattle.wire.specs.Count.{lessOne}
+use Rattle.answers.specs.Tests.{firstFrom}
+use Rattle.s2xv2.specs.ListA.{misnamed, inSuperframe, listA}
+use Rattle.s2xv2.specs.ListB.{superframeB, listB}
 use Rattle.s2xv2.proofs.Modes.{unnamed}
 use Rattle.s2xv2.specs.Held.{HeldSuperframe, Held}
 use Rattle.s2xv2.specs.declared.record.S2Xv2SatelliteDeliverySystem.{S2Xv2SatelliteDeliverySystem}
@@ -29,36 +34,11 @@ use Rattle.s2xv2.specs.declared.superframe.OptionSuperframe.{OptionSuper
 use Rattle.s2xv2.specs.declared.superframe.OptionSuperframe.the-variants as OS
 use Rattle.s2xv2.specs.declared.mode.S2Xv2Mode.{S2Xv2Mode}
 use Rattle.s2xv2.specs.declared.mode.S2Xv2Mode.the-variants as M
-use Rattle.s2xv2.specs.declared.option.OptionBool.{OptionBool}
-use Rattle.s2xv2.specs.declared.option.OptionBool.the-variants as OB
-use Rattle.s2xv2.specs.declared.option.OptionU8.{OptionU8}
-use Rattle.s2xv2.specs.declared.option.OptionU8.the-variants as O8
-use Rattle.s2xv2.specs.declared.option.OptionU32.{OptionU32}
-
--- ---- the first place
-
--- no test of the list holds
-abbrev pub Clear : List Bool → Type 0
-Clear [] = Unit
-Clear (t ∷ ts) = (t ≡ false) × Clear ts
-
-pub first-clear : (p : ℕ) (ts : List Bool) → firstFrom (suc p) ts ≡ 0 → Clear ts
-first-clear p [] e = tt
-first-clear p (true ∷ ts) e = absurd (omega arith)
-first-clear p (false ∷ ts) e = (refl, first-clear (suc p) ts e)
-
-pub clear-first : (p : ℕ) (ts : List Bool) → Clear ts → firstFrom p ts ≡ 0
-clear-first p [] h = refl
-clear-first p (t ∷ ts) h = simp (h .0) (clear-first (suc p) ts (h .1))
-
--- parts of a list of which none holds
-pub clear-left : (ts us : List Bool) → Clear (ts ++ us) → Clear ts
-clear-left [] us h = tt
-clear-left (t ∷ ts) us h = (h .0, clear-left ts us (h .1))
-
-pub clear-right : (ts us : List Bool) → Clear (ts ++ us) → Clear us
-clear-right [] us h = h
-clear-right (t ∷ ts) us h = clear-right ts us (h .1)
+use Rattle.answers.specs.declared.option.OptionBool.{OptionBool}
+use Rattle.answers.specs.declared.option.OptionBool.the-variants as OB
+use Rattle.answers.specs.declared.option.OptionU8.{OptionU8}
+use Rattle.answers.specs.declared.option.OptionU8.the-variants as O8
+use Rattle.answers.specs.declared.option.OptionU32.{OptionU32}
 
 -- ---- tests that fail
 
@@ -74,13 +54,6 @@ both-ways true true e f = refl
 both-ways true false e f = e
 both-ways false true e f = sym f
 both-ways false false e f = refl
-
-pub narrow : (w v : ℕ) → wide w v ≡ false → v < 2 ^ w
-narrow w v e = leb-false _ _ e
-
-pub narrow-if : (t : Bool) (w v : ℕ) → and t (wide w v) ≡ false → t ≡ true → v < 2 ^ w
-narrow-if true w v e h = narrow w v e
-narrow-if false w v e h = absurd (let z : _≡_ {A = ℕ} 0 1 = cc in omega arith)
 
 named : (m : S2Xv2Mode) → misnamed m ≡ false → modeOf (codeOf m) ≡ m
 unfolding modeOf
@@ -229,11 +202,3 @@ module _ (r : S2Xv2SatelliteDeliverySystem) (b : Clear (listB r)) (h : Held r) w
             (fit-append (bondOf r) (superframeOf r) (bond-fits (eqb (r .«channel_bond») 1) _ _ _ (b₁₀ .1 .1 .1 .0) (b₁₀ .1 .1 .1 .1 .0) (h .first) (h .second))
             (superframe-fits (r .superframe) (b₁₀ .1 .1 .1 .1 .1) (h .block))))),
       )
-
--- ---- lists one after the other
-
--- the first place of two lists is that of the first list, or of the second if the first has none
-pub first-append : (p : ℕ) (ts us : List Bool) → firstFrom (suc p) (ts ++ us) ≡ when (eqb (firstFrom (suc p) ts) 0) (firstFrom (suc p + length ts) us) (firstFrom (suc p) ts)
-first-append p [] us = ap (λ (k : ℕ). firstFrom k us) (sym (add-zero (suc p)))
-first-append p (true ∷ ts) us = simp (ne-eqb (suc p) 0 (λ d. omega arith))
-first-append p (false ∷ ts) us = first-append (suc p) ts us ∙ ap (λ (k : ℕ). when (eqb (firstFrom (suc (suc p)) ts) 0) (firstFrom k us) (firstFrom (suc (suc p)) ts)) (omega arith)

@@ -9,32 +9,15 @@ use native.Mathlib.Omega.{arith}
 use lib.ListN.{length, drop, getD}
 use lib.Dec.{ltb, eqb}
 use borrow.Author.Tests.{lt-ltb, le-ltb, ltb-true, ltb-false, eq-eqb, ne-eqb}
-use Rattle.wire.specs.Flags.{when}
-use Rattle.s2xv2.specs.Answer.{numbers, saturated}
+use Rattle.answers.proofs.Answers.{refused-number, refused}
+use Rattle.answers.proofs.Short.{Reaches, reaches-told, told-reaches}
+use Rattle.wire.specs.Flags.{when, only}
+use Rattle.answers.specs.Answer.{numbers, saturated, numberOf}
 use Rattle.s2xv2.specs.Default.{defaultRecord}
-use Rattle.s2xv2.specs.Read.{Present, only, presentIn, hasSecond, bondSize, bondEnd, hasPlan, superframeSize, planSize, superframeEnd, timesliceEnd, bodySize, Need, needs, numberOf, shortTold, readTold, readOf, recordIn, tailOf}
-use Rattle.s2xv2.specs.declared.answer.Refusal.{Refusal}
-use Rattle.s2xv2.specs.declared.answer.Refusal.the-variants as R
-
--- ---- lists of needs
-
--- n bytes reach every end of the list
-abbrev pub Reaches : ℕ → List Need → Type 0
-Reaches n [] = Unit
-Reaches n (m ∷ ms) = (m .need ≤ n) × Reaches n ms
-
-pub reaches-told : (n : ℕ) (ns : List Need) (o : List ℕ) → Reaches n ns → shortTold n ns o ≡ o
-reaches-told n [] o h = refl
-reaches-told n (m ∷ ms) o h = simp (le-ltb _ _ (h .0)) (reaches-told n ms o (h .1))
-
-pub told-reaches : (n : ℕ) (ns : List Need) (o : List ℕ) → numberOf (shortTold n ns o) ≡ 0 → Reaches n ns
-told-reaches n [] o e = tt
-told-reaches n (m ∷ ms) o e = go (ltb n (m .need)) refl e (told-reaches n ms o)
-  where
-    go : (c : Bool) → ltb n (m .need) ≡ c → numberOf (when c (1 ∷ m .place ∷ m .need ∷ n ∷ []) (shortTold n ms o)) ≡ 0
-        → (numberOf (shortTold n ms o) ≡ 0 → Reaches n ms) → Reaches n (m ∷ ms)
-    go true d z more = absurd (omega arith)
-    go false d z more = (ltb-false _ _ d, more z)
+use Rattle.s2xv2.specs.Read.{Present, presentIn, hasSecond, bondSize, bondEnd, hasPlan, superframeSize, planSize, superframeEnd, timesliceEnd, bodySize, needs, readTold, readOf, recordIn, tailOf}
+use Rattle.answers.specs.Short.{Need, shortTold}
+use Rattle.answers.specs.declared.answer.Refusal.{Refusal}
+use Rattle.answers.specs.declared.answer.Refusal.the-variants as R
 
 -- ---- the ends are in order
 
@@ -55,18 +38,6 @@ reaches-all s k n h =
     (omega arith, (omega arith, (omega arith, (omega arith, (omega arith, (omega arith, (omega arith, (omega arith, (omega arith, (h, tt))))))))))
 
 -- ---- the answer
-
-pub refused-number : (why : Refusal) → eqb (numberOf (numbers why)) 0 ≡ false
-refused-number (R.Short place need have) = refl
-refused-number (R.Long n) = refl
-refused-number (R.Inconsistent place) = refl
-refused-number (R.Field place) = refl
-refused-number (R.Room need have) = refl
-refused-number R.Slot = refl
-refused-number (R.NoFit size) = refl
-
-pub refused : (why : Refusal) → numberOf (numbers why) ≡ 0 → ⊥
-refused why e = let z : false ≡ true = sym (refused-number why) ∙ eq-eqb _ 0 e in let k : _≡_ {A = ℕ} 0 1 = cc in omega arith
 
 module _ (s : List ℕ) where
   pub told-long : 4096 < length s → readTold s ≡ 2 ∷ saturated (length s) ∷ []

@@ -9,30 +9,32 @@ use native.Mathlib.Nat.{zero-add, add-assoc}
 use native.Mathlib.Omega.{arith}
 use lib.ListN.{getD, drop}
 use lib.Dec.{eqb}
-use Rattle.wire.specs.Flags.{when, isOne, and}
+use Rattle.wire.specs.Flags.{when, isOne, and, only}
 use Rattle.wire.specs.Widths.{cut, pack, Fit, Bytes}
 use Rattle.wire.specs.Parts.{Part, _⦂_, bytesOf, sizes, AllFit}
 use Rattle.wire.proofs.Parts.{bytesOf-append, sizes-append, fit-left, fit-right, bytes-bytesOf, Stands, Found, find, after}
 use Rattle.wire.proofs.Flags.{never, is-bit}
 use Rattle.s2xv2.specs.Table144b as T
-use Rattle.s2xv2.specs.Options.{isSomeBool, isSome8, isSome32, isSomeSuperframe, selected, someBoolIf, some8If, someSuperframeIf}
-use Rattle.s2xv2.specs.Read.{Present, presentFrom, presentIn, only, streamEnd, scramblingEnd, timesliceEnd, hasSecond, bondSize, bondEnd, hasPlan, superframeSize, superframeEnd, bodySize, superframeFrom, superframeAt, byteAt, reserved6At, indexAt, reserved7At, countIf, firstIdAt, secondIdAt, recordFrom, recordAt, recordIn, readTold, Reading, readOf, tailOf}
+use Rattle.answers.specs.Options.{isSomeBool, isSome8, isSome32, selected, someBoolIf, some8If}
+use Rattle.s2xv2.specs.OptionSuperframe.{isSomeSuperframe, someSuperframeIf}
+use Rattle.s2xv2.specs.Read.{Present, presentFrom, presentIn, streamEnd, scramblingEnd, timesliceEnd, hasSecond, bondSize, bondEnd, hasPlan, superframeSize, superframeEnd, bodySize, superframeFrom, superframeAt, streamIdAt, reserved6At, indexAt, reserved7At, countIf, firstIdAt, secondIdAt, recordFrom, recordAt, recordIn, readTold, Reading, readOf, tailOf}
 use Rattle.s2xv2.specs.Encode.{topBit, coreValues, byteParts, scramblingParts, bondParts, nibbleOf, superframeValues, planParts, superframeEndValues, superframeParts, streamOf, scramblingOf, timesliceOf, bondOf, superframeOf, partsOf, encode, encodedLength}
 use Rattle.s2xv2.specs.Carried.{carriedBlock, carriedSuperframe, carriedId, carried}
 use Rattle.s2xv2.specs.declared.record.S2Xv2SatelliteDeliverySystem.{S2Xv2SatelliteDeliverySystem}
 use Rattle.s2xv2.specs.declared.superframe.S2Xv2Superframe.{S2Xv2Superframe}
 use Rattle.s2xv2.specs.declared.superframe.OptionSuperframe.{OptionSuperframe}
 use Rattle.s2xv2.specs.declared.superframe.OptionSuperframe.the-variants as OS
-use Rattle.s2xv2.specs.declared.option.OptionBool.{OptionBool}
-use Rattle.s2xv2.specs.declared.option.OptionBool.the-variants as OB
-use Rattle.s2xv2.specs.declared.option.OptionU8.{OptionU8}
-use Rattle.s2xv2.specs.declared.option.OptionU8.the-variants as O8
-use Rattle.s2xv2.specs.declared.option.OptionU32.{OptionU32}
-use Rattle.s2xv2.specs.declared.option.OptionU32.the-variants as O32
+use Rattle.answers.specs.declared.option.OptionBool.{OptionBool}
+use Rattle.answers.specs.declared.option.OptionBool.the-variants as OB
+use Rattle.answers.specs.declared.option.OptionU8.{OptionU8}
+use Rattle.answers.specs.declared.option.OptionU8.the-variants as O8
+use Rattle.answers.specs.declared.option.OptionU32.{OptionU32}
+use Rattle.answers.specs.declared.option.OptionU32.the-variants as O32
 use Rattle.s2xv2.specs.ListA.{listA, inconsistency}
 use Rattle.s2xv2.specs.ListB.{listB, unwritable}
 use Rattle.s2xv2.specs.Held.{Held}
-use Rattle.s2xv2.proofs.Lists.{first-clear, AgreesBlock, AgreesSuperframe, Agrees, agrees, fits}
+use Rattle.answers.proofs.Tests.{first-clear}
+use Rattle.s2xv2.proofs.Lists.{AgreesBlock, AgreesSuperframe, Agrees, agrees, fits}
 use Rattle.s2xv2.proofs.Whole.{byte-size, scrambling-size, whole-byte, whole-scrambling, whole-bond, whole-parts, encode-length}
 use Rattle.s2xv2.proofs.Reach.{reads-accepted}
 
@@ -94,7 +96,7 @@ block-at s p q f v c e₁ e₂ e₃ =
     ∙ block-from f c
 
 module _ (s : List ℕ) (b : Bytes s) where
-  byte-reads : {p : ℕ} (l : List ℕ) (v : OptionU8) → AllFit (byteParts (8 ∷ []) v) → Stands s p (bytesOf (byteParts (8 ∷ []) v) l) → byteAt s p (isSome8 v) ≡ v
+  byte-reads : {p : ℕ} (l : List ℕ) (v : OptionU8) → AllFit (byteParts (8 ∷ []) v) → Stands s p (bytesOf (byteParts (8 ∷ []) v) l) → streamIdAt s p (isSome8 v) ≡ v
   unfolding byteParts
   byte-reads {p} l (O8.Some v) f h = ap O8.Some (nth 0 (find (8 ∷ []) (v ∷ []) refl (f .0) b h .fields))
   byte-reads {p} l O8.None f h = refl

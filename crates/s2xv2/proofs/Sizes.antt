@@ -10,12 +10,13 @@ use native.Mathlib.Omega.{arith}
 use lib.ListN.{length, getD, replicate}
 use lib.Dec.{eqb}
 use borrow.Author.Tests.{ne-eqb}
-use Rattle.wire.specs.Flags.{when, isOne, and}
+use Rattle.wire.specs.Flags.{when, isOne, and, only}
 use Rattle.wire.specs.Bits.{bits}
 use Rattle.wire.specs.Widths.{cut}
 use Rattle.s2xv2.specs.Table144b as T
 use Rattle.s2xv2.specs.Table144c.{modeOf, hasSelector, hasTimeslice, hasSuperframe}
-use Rattle.s2xv2.specs.Read.{only, presentIn, bondSize, superframeSize, hasSecond, hasPlan, timesliceEnd, bondEnd, bodySize, numberOf, readTold}
+use Rattle.s2xv2.specs.Read.{presentIn, bondSize, superframeSize, hasSecond, hasPlan, timesliceEnd, bondEnd, bodySize, readTold}
+use Rattle.answers.specs.Answer.{numberOf}
 use Rattle.s2xv2.specs.declared.mode.S2Xv2Mode.{S2Xv2Mode}
 use Rattle.s2xv2.specs.declared.mode.S2Xv2Mode.the-variants as M
 use Rattle.s2xv2.proofs.Modes.{by-code}

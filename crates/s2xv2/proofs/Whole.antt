@@ -9,15 +9,15 @@ use lib.ListN.{length}
 use lib.Dec.{eqb}
 use Rattle.wire.specs.Parts.{sizes}
 use Rattle.wire.proofs.Parts.{Whole, whole-append, sizes-append, length-bytesOf}
-use Rattle.s2xv2.specs.Options.{isSome8, selected}
-use Rattle.s2xv2.specs.Read.{only}
+use Rattle.answers.specs.Options.{isSome8, selected}
+use Rattle.wire.specs.Flags.{only}
 use Rattle.s2xv2.specs.Encode.{byteParts, scramblingParts, idParts, bondParts, planParts, superframeParts, streamOf, scramblingOf, timesliceOf, bondOf, superframeOf, partsOf, encode, encodedLength}
 use Rattle.s2xv2.specs.declared.record.S2Xv2SatelliteDeliverySystem.{S2Xv2SatelliteDeliverySystem}
 use Rattle.s2xv2.specs.declared.superframe.OptionSuperframe.{OptionSuperframe}
 use Rattle.s2xv2.specs.declared.superframe.OptionSuperframe.the-variants as OS
-use Rattle.s2xv2.specs.declared.option.OptionU8.{OptionU8}
-use Rattle.s2xv2.specs.declared.option.OptionU8.the-variants as O8
-use Rattle.s2xv2.specs.declared.option.OptionU32.{OptionU32}
+use Rattle.answers.specs.declared.option.OptionU8.{OptionU8}
+use Rattle.answers.specs.declared.option.OptionU8.the-variants as O8
+use Rattle.answers.specs.declared.option.OptionU32.{OptionU32}
 
 pub whole-byte : (v : OptionU8) → Whole (byteParts (8 ∷ []) v)
 unfolding Whole byteParts

@@ -8,16 +8,15 @@ use native.Mathlib.Omega.{arith}
 use lib.ListN.{length, getD, drop}
 use lib.Dec.{ltb}
 use borrow.Author.Tests.{lt-ltb, le-ltb, ltb-true, ltb-false}
-use Rattle.s2xv2.specs.Answer.{numbers, saturated}
-use Rattle.s2xv2.specs.Read.{numberOf}
+use Rattle.answers.specs.Answer.{numbers, saturated, numberOf}
 use Rattle.s2xv2.specs.Encode.{encode, encodedLength}
 use Rattle.s2xv2.specs.ListA.{inconsistency}
 use Rattle.s2xv2.specs.ListB.{unwritable}
 use Rattle.s2xv2.specs.Length.{lengthTold}
 use Rattle.s2xv2.specs.Write.{writeTold, written}
 use Rattle.s2xv2.specs.declared.record.S2Xv2SatelliteDeliverySystem.{S2Xv2SatelliteDeliverySystem}
-use Rattle.s2xv2.specs.declared.answer.Refusal.{Refusal}
-use Rattle.s2xv2.proofs.Reach.{refused-number}
+use Rattle.answers.specs.declared.answer.Refusal.{Refusal}
+use Rattle.answers.proofs.Answers.{refused-number}
 
 module _ (r : S2Xv2SatelliteDeliverySystem) (tail : List ℕ) where
   -- ---- the length

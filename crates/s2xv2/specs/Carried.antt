@@ -4,9 +4,8 @@ use Prim.Native.Nat.{ℕ}
 use mathlib.Core.List.{List, [], _∷_}
 use lib.ListN.{getD}
 use lib.Dec.{eqb, ltb}
-use Rattle.wire.specs.Flags.{when}
-use Rattle.s2xv2.specs.Options.{isSomeBool, selected}
-use Rattle.s2xv2.specs.Read.{only}
+use Rattle.wire.specs.Flags.{when, only}
+use Rattle.answers.specs.Options.{isSomeBool, selected}
 use Rattle.s2xv2.specs.declared.record.S2Xv2SatelliteDeliverySystem.{S2Xv2SatelliteDeliverySystem}
 use Rattle.s2xv2.specs.declared.superframe.S2Xv2Superframe.{S2Xv2Superframe}
 use Rattle.s2xv2.specs.declared.superframe.OptionSuperframe.{OptionSuperframe}

@@ -5,9 +5,9 @@ use Rattle.s2xv2.specs.declared.record.S2Xv2SatelliteDeliverySystem.{S2X
 use Rattle.s2xv2.specs.declared.superframe.S2Xv2Superframe.{S2Xv2Superframe}
 use Rattle.s2xv2.specs.declared.superframe.OptionSuperframe.the-variants as OS
 use Rattle.s2xv2.specs.declared.mode.S2Xv2Mode.the-variants as M
-use Rattle.s2xv2.specs.declared.option.OptionBool.the-variants as OB
-use Rattle.s2xv2.specs.declared.option.OptionU8.the-variants as O8
-use Rattle.s2xv2.specs.declared.option.OptionU32.the-variants as O32
+use Rattle.answers.specs.declared.option.OptionBool.the-variants as OB
+use Rattle.answers.specs.declared.option.OptionU8.the-variants as O8
+use Rattle.answers.specs.declared.option.OptionU32.the-variants as O32
 
 unfoldable pub defaultSuperframe : S2Xv2Superframe
 defaultSuperframe = record {

@@ -9,20 +9,21 @@ use mathlib.Core.List.{List, [], _∷_, _++_}
 use mathlib.Core.Bool.{Bool}
 use lib.ListN.{length, getD}
 use lib.Dec.{eqb}
+use Rattle.wire.specs.Count.{lessOne}
 use Rattle.wire.specs.Flags.{when, bit}
 use Rattle.wire.specs.Parts.{Part, _⦂_, bytesOf, sizes}
 use Rattle.s2xv2.specs.Table144b as T
 use Rattle.s2xv2.specs.Table144c.{codeOf}
-use Rattle.s2xv2.specs.Options.{selected, orZero8, orZero32}
+use Rattle.answers.specs.Options.{selected, orZero8, orZero32}
 use Rattle.s2xv2.specs.declared.record.S2Xv2SatelliteDeliverySystem.{S2Xv2SatelliteDeliverySystem}
 use Rattle.s2xv2.specs.declared.superframe.S2Xv2Superframe.{S2Xv2Superframe}
 use Rattle.s2xv2.specs.declared.superframe.OptionSuperframe.{OptionSuperframe}
 use Rattle.s2xv2.specs.declared.superframe.OptionSuperframe.the-variants as OS
-use Rattle.s2xv2.specs.declared.option.OptionBool.{OptionBool}
-use Rattle.s2xv2.specs.declared.option.OptionBool.the-variants as OB
-use Rattle.s2xv2.specs.declared.option.OptionU8.{OptionU8}
-use Rattle.s2xv2.specs.declared.option.OptionU8.the-variants as O8
-use Rattle.s2xv2.specs.declared.option.OptionU32.{OptionU32}
+use Rattle.answers.specs.declared.option.OptionBool.{OptionBool}
+use Rattle.answers.specs.declared.option.OptionBool.the-variants as OB
+use Rattle.answers.specs.declared.option.OptionU8.{OptionU8}
+use Rattle.answers.specs.declared.option.OptionU8.the-variants as O8
+use Rattle.answers.specs.declared.option.OptionU32.{OptionU32}
 
 -- the top bit of byte 6: the selector, or what is reserved in its place
 abbrev pub topBit : OptionBool → ℕ → ℕ
@@ -55,11 +56,6 @@ byteParts ws O8.None = []
 
 unfoldable pub scramblingParts : Bool → ℕ → OptionU32 → List Part
 scramblingParts there reserved index = when there (T.scrambling ⦂ (reserved ∷ orZero32 index ∷ []) ∷ []) []
-
--- the count minus one, with the wrap of a byte
-abbrev pub lessOne : ℕ → ℕ
-lessOne zero = 255
-lessOne (suc n) = n
 
 -- n ids, from the i-th on
 abbrev pub idParts : ℕ → ℕ → List ℕ → List Part

@@ -1,9 +1,9 @@
 -- What the types of a record's fields say of it: `Held`, for each field whose type is as wide as its place on the wire; `HeldBlock` is
--- that of a superframe block, `HeldSuperframe` of one that may be absent. Every record that a program can hold is held: `typed::is_held` gives
+-- that of a superframe block, `HeldSuperframe` of one that may be absent. Every record that a program can hold is held: `s2xv2_typed::is_held` gives
 -- it for any record. Assumes nothing.
 use Prim.Native.Nat.{_^_, _<_}
 use lib.ListN.{getD}
-use Rattle.s2xv2.specs.Options.{orZero8, orZero32}
+use Rattle.answers.specs.Options.{orZero8, orZero32}
 use Rattle.s2xv2.specs.declared.record.S2Xv2SatelliteDeliverySystem.{S2Xv2SatelliteDeliverySystem}
 use Rattle.s2xv2.specs.declared.superframe.S2Xv2Superframe.{S2Xv2Superframe}
 use Rattle.s2xv2.specs.declared.superframe.OptionSuperframe.{OptionSuperframe}

@@ -3,9 +3,9 @@ use Prim.Native.Nat.{ℕ}
 use mathlib.Core.List.{List}
 use lib.Dec.{ltb}
 use Rattle.wire.specs.Flags.{when}
-use Rattle.s2xv2.specs.Answer.{numbers, told, saturated}
-use Rattle.s2xv2.specs.declared.answer.Refusal.the-variants as R
-use Rattle.s2xv2.specs.declared.answer.Answer.the-variants as A
+use Rattle.answers.specs.Answer.{numbers, told, saturated}
+use Rattle.answers.specs.declared.answer.Refusal.the-variants as R
+use Rattle.answers.specs.declared.answer.Answer.the-variants as A
 use Rattle.s2xv2.specs.Encode.{encodedLength}
 use Rattle.s2xv2.specs.ListA.{inconsistency}
 use Rattle.s2xv2.specs.declared.record.S2Xv2SatelliteDeliverySystem.{S2Xv2SatelliteDeliverySystem}

@@ -1,8 +1,7 @@
 pub mod Table144b
 pub mod Table144c
 pub mod Default
-pub mod Options
-pub mod Answer
+pub mod OptionSuperframe
 pub mod Read
 pub mod Encode
 pub mod ListA

@@ -6,23 +6,17 @@ use Prim.Native.Nat.{ℕ, suc}
 use mathlib.Core.List.{List, [], _∷_, _++_}
 use mathlib.Core.Bool.{Bool, false}
 use lib.Dec.{eqb, ltb}
+use Rattle.answers.specs.Tests.{firstOf}
 use Rattle.wire.specs.Flags.{when, and, not, differ}
 use Rattle.s2xv2.specs.Table144c.{hasSelector, hasTimeslice, hasSuperframe}
-use Rattle.s2xv2.specs.Options.{isSomeBool, isSome8, isSome32, isSomeSuperframe, selected}
+use Rattle.answers.specs.Options.{isSomeBool, isSome8, isSome32, selected}
+use Rattle.s2xv2.specs.OptionSuperframe.{isSomeSuperframe}
 use Rattle.s2xv2.specs.declared.record.S2Xv2SatelliteDeliverySystem.{S2Xv2SatelliteDeliverySystem}
 use Rattle.s2xv2.specs.declared.superframe.S2Xv2Superframe.{S2Xv2Superframe}
 use Rattle.s2xv2.specs.declared.superframe.OptionSuperframe.{OptionSuperframe}
 use Rattle.s2xv2.specs.declared.superframe.OptionSuperframe.the-variants as OS
 use Rattle.s2xv2.specs.declared.mode.S2Xv2Mode.{S2Xv2Mode}
 use Rattle.s2xv2.specs.declared.mode.S2Xv2Mode.the-variants as M
-
--- the place, counted from p, of the first test that holds; 0 if none does
-abbrev pub firstFrom : ℕ → List Bool → ℕ
-firstFrom p [] = 0
-firstFrom p (t ∷ ts) = when t p (firstFrom (suc p) ts)
-
-abbrev pub firstOf : List Bool → ℕ
-firstOf tests = firstFrom 1 tests
 
 -- `Reserved(v)` with a v that has a variant of its own
 abbrev pub misnamed : S2Xv2Mode → Bool

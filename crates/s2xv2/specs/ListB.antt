@@ -5,16 +5,16 @@ use Prim.Native.Nat.{ℕ, _^_}
 use mathlib.Core.List.{List, [], _∷_, _++_}
 use mathlib.Core.Bool.{Bool}
 use lib.Dec.{eqb, leb}
+use Rattle.wire.specs.Widths.{wide}
 use Rattle.wire.specs.Flags.{and, not}
 use Rattle.s2xv2.specs.Table144c.{codeOf}
-use Rattle.s2xv2.specs.Options.{isSomeBool, isSome8, isSome32, selected, orZero32}
-use Rattle.s2xv2.specs.Encode.{lessOne, nibbleOf}
-use Rattle.s2xv2.specs.ListA.{firstOf, inSuperframe}
+use Rattle.answers.specs.Options.{isSomeBool, isSome8, isSome32, selected, orZero32}
+use Rattle.wire.specs.Count.{lessOne}
+use Rattle.s2xv2.specs.Encode.{nibbleOf}
+use Rattle.answers.specs.Tests.{firstOf}
+use Rattle.s2xv2.specs.ListA.{inSuperframe}
 use Rattle.s2xv2.specs.declared.record.S2Xv2SatelliteDeliverySystem.{S2Xv2SatelliteDeliverySystem}
 use Rattle.s2xv2.specs.declared.superframe.OptionSuperframe.{OptionSuperframe}
-
-abbrev pub wide : ℕ → ℕ → Bool
-wide w v = leb (2 ^ w) v
 
 -- the core
 abbrev pub coreB : S2Xv2SatelliteDeliverySystem → List Bool

@@ -6,7 +6,7 @@
 -- Where: `only` counts what is there; `streamEnd`, `scramblingEnd`, `timesliceEnd`; `headerEnd`, `firstIdEnd` and `bondEnd` by `bondSize`;
 -- `blockEnd`, `planEnd` by `planSize`, as far as a plan id goes, and `superframeEnd` by `superframeSize`. A `Need`, made by `_to_`, is a
 -- place with its end.
--- The record: `byteAt` is the stream id, `timesliceAt` the timeslice, `reserved6At`, `indexAt`, `reserved7At`, `firstIdAt` and `secondIdAt` are
+-- The record: `streamIdAt` is the stream id, `timesliceAt` the timeslice, `reserved6At`, `indexAt`, `reserved7At`, `firstIdAt` and `secondIdAt` are
 -- the other fields, `countIf` the bonds' count; `superframeFrom` its values is a block, `planAt` its plan id, `superframeAt` the block at
 -- a byte; `recordFrom` all of these is the record, `recordAt` the one of a body whose parts start as told, `recordOf` the one whose parts stand one behind the other.
 -- The answer: `numberOf` it is its first number, `shortTold` is 1 or what else is told, `Reading` is an answer with the record.
@@ -15,20 +15,22 @@ use mathlib.Core.List.{List, [], _∷_, _++_}
 use mathlib.Core.Bool.{Bool}
 use lib.ListN.{length, drop, getD}
 use lib.Dec.{eqb, ltb}
-use Rattle.wire.specs.Flags.{when, isOne, and}
+use Rattle.answers.specs.Short.{Need, _to_, shortTold}
+use Rattle.wire.specs.Flags.{when, isOne, and, only}
 use Rattle.wire.specs.Widths.{size, cut, give, read}
 use Rattle.s2xv2.specs.Table144b as T
 use Rattle.s2xv2.specs.Table144c.{modeOf, hasSelector, hasTimeslice, hasSuperframe}
 use Rattle.s2xv2.specs.Default.{defaultRecord}
-use Rattle.s2xv2.specs.Options.{someBoolIf, some8If, some32If, someSuperframeIf}
-use Rattle.s2xv2.specs.Answer.{numbers, told, saturated}
-use Rattle.s2xv2.specs.declared.answer.Refusal.the-variants as R
-use Rattle.s2xv2.specs.declared.answer.Answer.the-variants as A
+use Rattle.answers.specs.Options.{someBoolIf, some8If, some32If}
+use Rattle.s2xv2.specs.OptionSuperframe.{someSuperframeIf}
+use Rattle.answers.specs.Answer.{numbers, told, saturated, numberOf}
+use Rattle.answers.specs.declared.answer.Refusal.the-variants as R
+use Rattle.answers.specs.declared.answer.Answer.the-variants as A
 use Rattle.s2xv2.specs.declared.record.S2Xv2SatelliteDeliverySystem.{S2Xv2SatelliteDeliverySystem}
 use Rattle.s2xv2.specs.declared.superframe.S2Xv2Superframe.{S2Xv2Superframe}
 use Rattle.s2xv2.specs.declared.superframe.OptionSuperframe.{OptionSuperframe}
-use Rattle.s2xv2.specs.declared.option.OptionU8.{OptionU8}
-use Rattle.s2xv2.specs.declared.option.OptionU32.{OptionU32}
+use Rattle.answers.specs.declared.option.OptionU8.{OptionU8}
+use Rattle.answers.specs.declared.option.OptionU32.{OptionU32}
 
 -- ---- which parts are there
 
@@ -55,10 +57,6 @@ unfoldable pub presentIn : List ℕ → Present
 presentIn s = presentFrom (cut s 0 T.core)
 
 -- ---- where each part ends
-
--- so many bytes, or a value, if the part is there, and 0 if not
-abbrev pub only : Bool → ℕ → ℕ
-only there n = when there n 0
 
 abbrev pub streamEnd : Present → ℕ
 streamEnd k = size T.core + only (k .stream) (size T.streamId)
@@ -112,15 +110,6 @@ bodySize s = superframeEnd s (presentIn s)
 
 -- ---- what is missing
 
--- the place of a part in answer 1, and the end that the body has to reach for it
-pub record Need : Type 0 where
-  pub place : ℕ
-  pub need : ℕ
-
-infixr 90 _to_
-abbrev pub _to_ : ℕ → ℕ → Need
-place to need = record { place = place; need = need }
-
 -- the parts in wire order
 abbrev pub needs : List ℕ → Present → List Need
 needs s k =
@@ -165,8 +154,8 @@ superframeAt s p plan =
     (cut s (p + when plan (size (T.superframe ++ T.plan)) (size T.superframe)) T.superframeEnd)
 
 -- the other parts, that start with byte p if they are there
-abbrev pub byteAt : List ℕ → ℕ → Bool → OptionU8
-byteAt s p there = some8If there (read T.streamId s p (λ v. v))
+abbrev pub streamIdAt : List ℕ → ℕ → Bool → OptionU8
+streamIdAt s p there = some8If there (read T.streamId s p (λ v. v))
 
 abbrev pub timesliceAt : List ℕ → ℕ → Bool → OptionU8
 timesliceAt s p there = some8If there (read T.timeslice s p (λ v. v))
@@ -223,7 +212,7 @@ recordFrom vs stream reserved6 index timeslice reserved7 count first second supe
 unfoldable pub recordAt : List ℕ → Present → ℕ → ℕ → ℕ → ℕ → S2Xv2SatelliteDeliverySystem
 recordAt s k scrambling timeslice bond superframe =
     recordFrom (cut s 0 T.core)
-    (byteAt s (size T.core) (k .stream))
+    (streamIdAt s (size T.core) (k .stream))
     (reserved6At s scrambling (k .scrambling)) (indexAt s scrambling (k .scrambling))
     (timesliceAt s timeslice (k .timeslice))
     (reserved7At s bond (k .bond)) (countIf (k .bond) (hasSecond s bond))
@@ -238,15 +227,6 @@ abbrev pub recordIn : List ℕ → S2Xv2SatelliteDeliverySystem
 recordIn s = recordOf s (presentIn s)
 
 -- ---- the answer
-
--- the number of an answer
-abbrev pub numberOf : List ℕ → ℕ
-numberOf told = getD told 0 0
-
--- for a body of `have` bytes: answer 1 at the first part whose end it does not reach, and `otherwise` if there is none
-abbrev pub shortTold : ℕ → List Need → List ℕ → List ℕ
-shortTold have [] otherwise = otherwise
-shortTold have (n ∷ ns) otherwise = when (ltb have (n .need)) (numbers (R.Short (n .place) (n .need) have)) (shortTold have ns otherwise)
 
 -- 2, then 1 in wire order, then accepted: the tail starts where the last part ends
 unfoldable pub readTold : List ℕ → List ℕ

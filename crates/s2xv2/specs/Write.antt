@@ -5,10 +5,9 @@ use mathlib.Core.List.{List, _++_}
 use lib.ListN.{length, drop}
 use lib.Dec.{eqb, ltb}
 use Rattle.wire.specs.Flags.{when}
-use Rattle.s2xv2.specs.Answer.{numbers, told, saturated}
-use Rattle.s2xv2.specs.declared.answer.Refusal.the-variants as R
-use Rattle.s2xv2.specs.declared.answer.Answer.the-variants as A
-use Rattle.s2xv2.specs.Read.{numberOf}
+use Rattle.answers.specs.Answer.{numbers, told, saturated, numberOf}
+use Rattle.answers.specs.declared.answer.Refusal.the-variants as R
+use Rattle.answers.specs.declared.answer.Answer.the-variants as A
 use Rattle.s2xv2.specs.Encode.{encode, encodedLength}
 use Rattle.s2xv2.specs.ListA.{inconsistency}
 use Rattle.s2xv2.specs.ListB.{unwritable}

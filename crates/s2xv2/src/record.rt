@@ -2,9 +2,9 @@
 ghost use mathlib.Core.Path.{_≡_};
 ghost use Rattle.s2xv2.specs.Default.{defaultRecord};
 use crate::mode::S2Xv2Mode;
-use crate::option::OptionBool;
-use crate::option::OptionU8;
-use crate::option::OptionU32;
+use answers::option::OptionBool;
+use answers::option::OptionU8;
+use answers::option::OptionU32;
 use crate::superframe::OptionSuperframe;
 
 // The record: the fields of a body in wire order.

@@ -2,8 +2,8 @@
 ghost use mathlib.Core.Path.{_≡_};
 ghost use Rattle.s2xv2.specs.Default.{defaultSuperframe};
 ghost use Rattle.s2xv2.specs.Encode.{blockLength};
-use crate::option::OptionU8;
-use crate::option::OptionU32;
+use answers::option::OptionU8;
+use answers::option::OptionU32;
 
 // The fields of the block in wire order.
 pub struct S2Xv2Superframe {

@@ -4,7 +4,7 @@ ghost use lib.ListN.{length};
 use libc::STDERR_FILENO;
 use libc::STDIN_FILENO;
 use libc::STDOUT_FILENO;
-use s2xv2::answer::Answer;
+use answers::answer::Answer;
 
 // How far the input has come, and whether every read succeeded.
 struct Input {
@@ -64,7 +64,7 @@ fn main() {
     }
     let n = input.at;
     let mut out = [0u8; 2048];
-    let answer = text::dump(&body[0..n], &mut out);
+    let answer = s2xv2_text::dump(&body[0..n], &mut out);
     match answer {
         Answer::Accepted(length) => print(&out, length),
         Answer::Refused(_) => {}

@@ -1,13 +1,15 @@
 -- Any two answers that a contract of this crate allows are equal, and any two final slots: the numbers lose nothing, since `answerOf` gives the answer back.
 -- Assumes nothing.
 use mathlib.Core.Path.{_≡_, refl, sym, ap, _∙_}
-use mathlib.Core.List.{List, [], _∷_}
-use Prim.Native.Nat.{ℕ, zero, suc}
+use mathlib.Core.List.{List}
+use Prim.Native.Nat.{ℕ}
 use lib.ListN.{length, getD}
-use Rattle.s2xv2.specs.declared.answer.Refusal.the-variants as R
+use lib.Dec.{eqb}
+use Rattle.wire.specs.Flags.{when}
+use Rattle.answers.specs.Answer.{numberOf}
 use Rattle.s2xv2.specs.Read.{Reading}
 use Rattle.s2xv2.specs.declared.record.S2Xv2SatelliteDeliverySystem.{S2Xv2SatelliteDeliverySystem}
-use Rattle.s2xv2.proofs.Answers.{refusalOf, refusal-back}
+use Rattle.answers.proofs.Answers.{refusalOf, refusal-back, refused-number}
 use Rattle.slot.specs.declared.answer.SlotAnswer.{SlotAnswer}
 use Rattle.slot.specs.declared.answer.SlotAnswer.the-variants as A
 use Rattle.slot.specs.declared.answer.SlotRead.{SlotRead}
@@ -17,22 +19,13 @@ use Rattle.slot.specs.Empty.{emptyTold, emptied}
 
 -- number 0 with nothing more is empty, number 0 with more is accepted, and any other number is a refusal's
 answerOf : List ℕ → SlotAnswer
-answerOf [] = A.Empty
-answerOf (zero ∷ []) = A.Empty
-answerOf (zero ∷ x ∷ l) = A.Accepted x (getD l 0 0)
-answerOf (suc n ∷ l) = A.Refused (refusalOf (suc n ∷ l))
+answerOf l = when (eqb (numberOf l) 0) (when (eqb (length l) 1) A.Empty (A.Accepted (getD l 1 0) (getD l 2 0))) (A.Refused (refusalOf l))
 
 answer-back : (a : SlotAnswer) → answerOf (slotTold a) ≡ a
 unfolding answerOf
 answer-back (A.Accepted place length) = refl
 answer-back A.Empty = refl
-answer-back (A.Refused (R.Short place need have)) = ap A.Refused (refusal-back (R.Short place need have))
-answer-back (A.Refused (R.Long n)) = ap A.Refused (refusal-back (R.Long n))
-answer-back (A.Refused (R.Inconsistent place)) = ap A.Refused (refusal-back (R.Inconsistent place))
-answer-back (A.Refused (R.Field place)) = ap A.Refused (refusal-back (R.Field place))
-answer-back (A.Refused (R.Room need have)) = ap A.Refused (refusal-back (R.Room need have))
-answer-back (A.Refused R.Slot) = ap A.Refused (refusal-back R.Slot)
-answer-back (A.Refused (R.NoFit size)) = ap A.Refused (refusal-back (R.NoFit size))
+answer-back (A.Refused why) = rw (refused-number why, refusal-back why)
 
 -- Two answers with the same numbers are equal.
 pub same-slot-told : (a b : SlotAnswer) → slotTold a ≡ slotTold b → a ≡ b

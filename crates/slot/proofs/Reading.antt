@@ -6,13 +6,13 @@ use mathlib.Core.List.{List, [], _∷_}
 use Prim.Native.Nat.{ℕ, _+_, _-_, _≤_}
 use native.Mathlib.Omega.{arith}
 use lib.ListN.{length, take, drop, length-take, length-drop}
-use Rattle.s2xv2.specs.declared.answer.Refusal.{Refusal}
-use Rattle.s2xv2.specs.declared.answer.Refusal.the-variants as R
-use Rattle.s2xv2.specs.Answer.{numbers, told}
+use Rattle.answers.proofs.Answers.{refused-number}
+use Rattle.answers.specs.declared.answer.Refusal.{Refusal}
+use Rattle.answers.specs.Answer.{numbers, told}
 use Rattle.s2xv2.specs.Read.{Reading, readOf, tailOf}
 use Rattle.s2xv2.proofs.Reach.{accepted-tail}
-use Rattle.reader.specs.Seen.{seen}
-use Rattle.reader.specs.declared.Parsed.{Parsed}
+use Rattle.s2xv2_reader.specs.Seen.{seen}
+use Rattle.s2xv2_reader.specs.declared.Parsed.{Parsed}
 use Rattle.slot.specs.declared.answer.SlotAnswer.{SlotAnswer}
 use Rattle.form.specs.Envelope.{stuffingTag}
 use Rattle.form.specs.Form.{byteAt, bodyIn, goodForm}
@@ -34,13 +34,7 @@ body-size s b f e = let n = form-size s f in rw e (simp (length-take, length-dro
 
 -- a refused body is told as the reader tells it
 pub placed-refused : (size : ℕ) (why : Refusal) → numbers why ≡ placed size (numbers why)
-placed-refused size (R.Short place need have) = refl
-placed-refused size (R.Long n) = refl
-placed-refused size (R.Inconsistent place) = refl
-placed-refused size (R.Field place) = refl
-placed-refused size (R.Room need have) = refl
-placed-refused size R.Slot = refl
-placed-refused size (R.NoFit d) = refl
+placed-refused size why = rw (refused-number why)
 
 -- ---- a slot that holds a body
 module _ (s b : List ℕ) (p : Parsed) (f : goodForm s ≡ true) (t : byteAt s 0 ≡ stuffingTag → ⊥) (e : b ≡ bodyIn s) where

@@ -1,7 +1,7 @@
 -- What reading a slot answers, in numbers: `slotTold`, and `slotSeen` with the record shown. Assumes nothing.
 use Prim.Native.Nat.{ℕ}
 use mathlib.Core.List.{List, [], _∷_}
-use Rattle.s2xv2.specs.Answer.{numbers}
+use Rattle.answers.specs.Answer.{numbers}
 use Rattle.s2xv2.specs.Read.{Reading}
 use Rattle.slot.specs.declared.answer.SlotAnswer.{SlotAnswer}
 use Rattle.slot.specs.declared.answer.SlotAnswer.the-variants as A

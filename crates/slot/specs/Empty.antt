@@ -3,8 +3,8 @@ use Prim.Native.Nat.{ℕ}
 use mathlib.Core.List.{List}
 use lib.ListN.{length}
 use Rattle.wire.specs.Flags.{when}
-use Rattle.s2xv2.specs.Answer.{numbers}
-use Rattle.s2xv2.specs.declared.answer.Refusal.the-variants as R
+use Rattle.answers.specs.Answer.{numbers}
+use Rattle.answers.specs.declared.answer.Refusal.the-variants as R
 use Rattle.slot.specs.Answer.{slotTold}
 use Rattle.slot.specs.declared.answer.SlotAnswer.the-variants as A
 use Rattle.form.specs.Envelope.{stuffing}

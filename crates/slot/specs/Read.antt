@@ -7,10 +7,10 @@ use mathlib.Core.List.{List, []}
 use lib.ListN.{length, getD}
 use lib.Dec.{eqb}
 use Rattle.wire.specs.Flags.{when}
-use Rattle.s2xv2.specs.Answer.{numbers}
-use Rattle.s2xv2.specs.declared.answer.Refusal.the-variants as R
+use Rattle.answers.specs.Answer.{numbers, numberOf}
+use Rattle.answers.specs.declared.answer.Refusal.the-variants as R
 use Rattle.s2xv2.specs.Default.{defaultRecord}
-use Rattle.s2xv2.specs.Read.{Reading, numberOf, readOf, tailOf}
+use Rattle.s2xv2.specs.Read.{Reading, readOf, tailOf}
 use Rattle.form.specs.Envelope.{stuffingTag, envelopeSize}
 use Rattle.slot.specs.Answer.{slotTold}
 use Rattle.slot.specs.declared.answer.SlotAnswer.the-variants as A

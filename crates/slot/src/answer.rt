@@ -1,5 +1,5 @@
 // What reading a slot answers. `specs/Answer.antt` gives the number of each answer and the numbers that it tells.
-use s2xv2::answer::Refusal;
+use answers::answer::Refusal;
 use s2xv2::record::S2Xv2SatelliteDeliverySystem;
 
 // What a slot holds, or why it cannot be told; also the answer of the call that empties one.

@@ -8,7 +8,7 @@ use crate::answer::SlotAnswer;
 use form::envelope::FILLER;
 use form::envelope::STUFFING_TAG;
 use form::good::is_size;
-use s2xv2::answer::Refusal;
+use answers::answer::Refusal;
 
 // Stores the filler in every byte.
 fn fill(slot: &mut [u8])

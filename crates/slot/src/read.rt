@@ -3,7 +3,7 @@ ghost use mathlib.Core.Path.{_≡_};
 ghost use mathlib.Core.Bool.{true};
 ghost use mathlib.Core.List.{[], _∷_};
 ghost use Prim.Native.Nat.{ℕ, _≤_};
-ghost use Rattle.s2xv2.specs.Answer.{told};
+ghost use Rattle.answers.specs.Answer.{told};
 ghost use Rattle.s2xv2.specs.Default.{defaultRecord};
 ghost use Rattle.form.specs.Envelope.{stuffingTag};
 ghost use Rattle.form.specs.Form.{byteAt, bodyIn, goodForm};
@@ -13,8 +13,8 @@ use crate::answer::SlotAnswer;
 use crate::answer::SlotRead;
 use form::envelope::STUFFING_TAG;
 use form::good::in_form;
-use s2xv2::answer::Answer;
-use s2xv2::answer::Refusal;
+use answers::answer::Answer;
+use answers::answer::Refusal;
 use s2xv2::record::S2Xv2SatelliteDeliverySystem;
 
 // The body of the first descriptor, which is one of ours.
@@ -60,7 +60,7 @@ pub fn read(slot: &[u8]) -> SlotRead
             return without(SlotAnswer::Empty);
         }
         let body = body_in(slot);
-        let parsed = reader::parse(body);
+        let parsed = s2xv2_reader::parse(body);
         let answer = parsed.answer;
         let held = parsed.body;
         return SlotRead {
@@ -79,7 +79,7 @@ pub fn reserved_tail(slot: &[u8]) -> &[u8]
         if slot[0] == STUFFING_TAG {
             return &slot[0..0];
         }
-        return reader::reserved_tail(body_in(slot));
+        return s2xv2_reader::reserved_tail(body_in(slot));
     }
     &slot[0..0]
 }

@@ -3,3 +3,4 @@ pub mod Flags
 pub mod Joined
 pub mod Parts
 pub mod Stores
+pub mod Wide

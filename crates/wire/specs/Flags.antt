@@ -9,6 +9,10 @@ abbrev pub when : {X : Type 0} → Bool → X → X → X
 when true a c = a
 when false a c = c
 
+-- so many bytes, or a value, if the part is there, and 0 if not
+abbrev pub only : Bool → ℕ → ℕ
+only there n = when there n 0
+
 -- a flag as a bit, and a bit as a flag
 abbrev pub bit : Bool → ℕ
 bit true = 1

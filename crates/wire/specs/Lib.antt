@@ -3,3 +3,4 @@ pub mod Bits
 pub mod Widths
 pub mod Parts
 pub mod Store
+pub mod Count

@@ -5,8 +5,9 @@
 -- `be` is a number as bytes, `beside` puts a field behind bits that wait for their byte, and `packFrom` packs behind such bits.
 use Prim.Native.Nat.{ℕ, zero, suc, _+_, _*_, _/_, _%_, _^_, _<_}
 use mathlib.Core.List.{List, [], _∷_, _++_}
+use mathlib.Core.Bool.{Bool}
 use lib.ListN.{getD, drop}
-use lib.Dec.{eqb}
+use lib.Dec.{eqb, leb}
 use Rattle.wire.specs.Flags.{when}
 use Rattle.wire.specs.Bits.{bits}
 
@@ -68,6 +69,10 @@ packFrom k n (w ∷ ws) vs =
 abbrev pub pack : List ℕ → List ℕ → List ℕ
 pack ws vs = packFrom 0 0 ws vs
 
+-- v takes more than w bits
+abbrev pub wide : ℕ → ℕ → Bool
+wide w v = leb (2 ^ w) v
+
 -- there are as many values as widths, and each is below 2 to its width
 abbrev pub Fit : List ℕ → List ℕ → Type 0
 Fit [] [] = Unit
@@ -75,6 +80,6 @@ Fit [] (v ∷ vs) = ⊥
 Fit (w ∷ ws) [] = ⊥
 Fit (w ∷ ws) (v ∷ vs) = (v < 2 ^ w) × Fit ws vs
 
--- every element is a byte, as a slice of u8 always has it: `typed::are_bytes` gives it for any slice
+-- every element is a byte, as a slice of u8 always has it: `s2xv2_typed::are_bytes` gives it for any slice
 abbrev pub Bytes : List ℕ → Type 0
 Bytes s = (i : ℕ) → getD s i 0 < 256

@@ -6,9 +6,9 @@ use Prim.Native.Nat.{ℕ}
 use native.Mathlib.Omega.{arith}
 use denote.Ref.{now}
 use lib.ListN.{length}
-use Rattle.s2xv2.specs.Answer.{told}
+use Rattle.answers.specs.Answer.{told}
 use Rattle.form.proofs.GoodForm.{form-size}
-use Rattle.s2xv2.specs.declared.answer.Refusal.the-variants as R
+use Rattle.answers.specs.declared.answer.Refusal.the-variants as R
 use Rattle.begin.specs.Begin.{answered, beginOf}
 use Rattle.begin.proofs.Telling.{refuses, told-slot, told-length, told-fit, length-accepted}
 use borrow.Author.Needs.{needs}

@@ -5,7 +5,7 @@ use mathlib.Core.List.{List}
 use Prim.Native.Nat.{ℕ}
 use native.Mathlib.Omega.{arith}
 use denote.Ref.{now}
-use Rattle.s2xv2.specs.declared.answer.Refusal.the-variants as R
+use Rattle.answers.specs.declared.answer.Refusal.the-variants as R
 use Rattle.begin.specs.Begin.{answered}
 use Rattle.begin.proofs.Telling.{refuses, told-no-fit, told-fits}
 use borrow.Author.Needs.{needs}

@@ -1,7 +1,7 @@
 -- `begin::stage` meets its contract: the writer's answer is begin's where it refuses, and where it accepts the staged bytes are the descriptor, 0 after it.
 -- Assumes nothing.
 use mathlib.Core.Path.{sym, ap, _∙_}
-use Rattle.s2xv2.specs.Answer.{told}
+use Rattle.answers.specs.Answer.{told}
 use Rattle.begin.proofs.Telling.{refuses, told-field}
 use Rattle.begin.proofs.Staging.{small, staged-accepted}
 use borrow.Author.Needs.{needs}

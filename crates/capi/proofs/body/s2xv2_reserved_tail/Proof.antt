@@ -3,12 +3,13 @@
 use mathlib.Core.Path.{_≡_, sym, ap, _∙_}
 use Prim.Native.Nat.{_-_}
 use lib.ListN.{length}
-use Rattle.flat.specs.declared.types.FlatPart.{FlatPart}
+use Rattle.s2xv2_flat.specs.declared.types.FlatPart.{FlatPart}
 use denote.Ref.{now}
-use Rattle.s2xv2.specs.Answer.{told}
+use Rattle.answers.specs.Answer.{told}
 use Rattle.s2xv2.specs.Read.{Reading}
-use Rattle.s2xv2.proofs.Reach.{accepted-tail, refused-number}
-use Rattle.capi.specs.Part.{tailPart, cut}
+use Rattle.s2xv2.proofs.Reach.{accepted-tail}
+use Rattle.answers.proofs.Answers.{refused-number}
+use Rattle.capi.specs.Part.{tailPart, partIn}
 use Rattle.capi.proofs.Part.{cut-tail}
 use borrow.Author.Needs.{needs}
 use Rattle.capi.proofs.body.s2xv2_reserved_tail.Statement.{statement}
@@ -34,7 +35,7 @@ returns c =
     let s = now (c .before .before .before .before .before .args .sel) in
     let t = sym (ap told (c .before .answer .given .1)) ∙ ap (λ (x : Reading). x .told) (c .before .before .before .parse .ensures) in
     let e : record { place = c .before .answer .given .0 .0; length = length s - c .before .answer .given .0 .0 } ≡ tailPart s = simp (sym t, accepted-tail s _ t .0) in
-    (e, ap (λ (p : FlatPart). cut p s) e ∙ cut-tail s)
+    (e, ap (λ (p : FlatPart). partIn p s) e ∙ cut-tail s)
 
 returns-2 : tie.Need-returns-2
 unfolding tailPart
@@ -42,7 +43,7 @@ returns-2 c =
     let s = now (c .before .before .before .before .args .sel) in
     let t = sym (ap told (c .enum-told .given .1)) ∙ ap (λ (x : Reading). x .told) (c .before .before .parse .ensures) in
     let e : record { place = 0; length = 0 } ≡ tailPart s = simp (sym t, refused-number (c .enum-told .given .0 .0)) in
-    (e, ap (λ (p : FlatPart). cut p s) e ∙ cut-tail s)
+    (e, ap (λ (p : FlatPart). partIn p s) e ∙ cut-tail s)
 
 pub s2xv2-reserved-tail-spec : {M : Type 1} → statement M
 s2xv2-reserved-tail-spec =

@@ -1,9 +1,9 @@
 -- `capi::slots::s2xv2_slot_reserved_tail` meets its contract: the part that reading the slot tells, which has the bytes of the tail.
 -- Assumes nothing.
 use mathlib.Core.Path.{_≡_, ap, _∙_}
-use Rattle.flat.specs.declared.types.FlatPart.{FlatPart}
+use Rattle.s2xv2_flat.specs.declared.types.FlatPart.{FlatPart}
 use Rattle.s2xv2.specs.Read.{Reading}
-use Rattle.capi.specs.Part.{toldPart, slotPart, cut}
+use Rattle.capi.specs.Part.{toldPart, slotPart, partIn}
 use Rattle.capi.proofs.Part.{cut-slot}
 use borrow.Author.Needs.{needs}
 use Rattle.capi.proofs.slots.s2xv2_slot_reserved_tail.Statement.{statement}
@@ -19,7 +19,7 @@ returns : tie.Need-returns
 unfolding slotPart
 returns c =
     let e : c .slot-part .result ≡ slotPart (c .before .before .before .args .s .now) = c .slot-part .ensures ∙ ap (λ (x : Reading). toldPart (x .told)) (c .before .read .ensures) in
-    (e, ap (λ (p : FlatPart). cut p (c .before .before .before .args .s .now)) e ∙ cut-slot (c .before .before .before .args .s .now))
+    (e, ap (λ (p : FlatPart). partIn p (c .before .before .before .args .s .now)) e ∙ cut-slot (c .before .before .before .args .s .now))
 
 pub s2xv2-slot-reserved-tail-spec : {M : Type 1} → statement M
 s2xv2-slot-reserved-tail-spec = tie.close (tie.spec read-requires slot-part-requires returns)

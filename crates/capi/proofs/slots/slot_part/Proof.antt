@@ -1,6 +1,6 @@
 -- `capi::slots::slot_part` meets its contract: the arm says what is told.
 -- Assumes nothing.
-use Rattle.s2xv2.proofs.Reach.{refused-number}
+use Rattle.answers.proofs.Answers.{refused-number}
 use borrow.Author.Needs.{needs}
 use Rattle.capi.proofs.slots.slot_part.Statement.{statement}
 use Rattle.capi.proofs.slots.slot_part.Tie as tie

@@ -2,7 +2,7 @@
 -- Assumes nothing.
 use mathlib.Core.Path.{sym, ap}
 use native.Mathlib.Omega.{arith}
-use Rattle.s2xv2.specs.Answer.{told}
+use Rattle.answers.specs.Answer.{told}
 use Rattle.slot.proofs.Reading.{placed-refused}
 use borrow.Author.Needs.{needs}
 use Rattle.slot.proofs.read.in_slot.Statement.{statement}

@@ -1,0 +1,4 @@
+pub mod Answers
+pub mod Short
+pub mod Tests
+pub mod Options

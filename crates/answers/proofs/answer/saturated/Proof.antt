@@ -1,0 +1,18 @@
+-- `answers::answer::saturated` meets its contract: the test picks the case.
+-- Assumes nothing.
+use borrow.Author.Tests.{lt-ltb, le-ltb}
+use borrow.Author.Needs.{needs}
+use Rattle.answers.proofs.answer.saturated.Statement.{statement}
+use Rattle.answers.proofs.answer.saturated.Tie as tie
+
+cast-result : tie.Need-cast-result
+cast-result c = search needs
+
+returns : tie.Need-returns
+returns c = simp (lt-ltb _ _ (c .if1 .taken))
+
+returns-2 : tie.Need-returns-2
+returns-2 c = simp (le-ltb _ _ (c .if1 .left))
+
+pub saturated-spec : {M : Type 1} → statement M
+saturated-spec = tie.close (tie.spec cast-result returns returns-2)

@@ -1,0 +1,53 @@
+-- `s2xv2_fields::core::bond` meets its contract: one text after the other.
+-- Assumes nothing.
+use borrow.Author.Needs.{needs}
+use Rattle.s2xv2_fields.specs.Fields.{coreLines}
+use Rattle.lines.proofs.Laws.{then4}
+use Rattle.s2xv2_fields.proofs.core.bond.Statement.{statement}
+use Rattle.s2xv2_fields.proofs.core.bond.Tie as tie
+
+slice-aggregate-line8 : tie.Need-slice-aggregate-line8
+slice-aggregate-line8 c = search needs
+
+line8-requires : tie.Need-line8-requires
+line8-requires c κs = search needs
+
+slice-aggregate-line8-2 : tie.Need-slice-aggregate-line8-2
+slice-aggregate-line8-2 c = search needs
+
+line8-requires-2 : tie.Need-line8-requires-2
+line8-requires-2 c κs = search needs
+
+top-requires : tie.Need-top-requires
+top-requires c κs = search needs
+
+slice-aggregate-line8-3 : tie.Need-slice-aggregate-line8-3
+slice-aggregate-line8-3 c = search needs
+
+line8-requires-3 : tie.Need-line8-requires-3
+line8-requires-3 c κs = search needs
+
+same-length : tie.Need-same-length
+same-length c = search needs
+
+returns : tie.Need-returns
+unfolding coreLines
+returns c =
+    then4 (c .before .before .before .before .before .before .before .before .before .before .before .before .before .before .before .before .line8 .ensures)
+    (c .before .before .before .before .before .before .before .before .before .before .before .line82 .ensures)
+    (c .before .before .before .before .before .before .before .top .ensures)
+    (c .before .before .line83 .ensures)
+
+pub bond-spec : {M : Type 1} → statement M
+bond-spec =
+    tie.close
+    (tie.spec
+    slice-aggregate-line8
+    line8-requires
+    slice-aggregate-line8-2
+    line8-requires-2
+    top-requires
+    slice-aggregate-line8-3
+    line8-requires-3
+    same-length
+    returns)

@@ -1,0 +1,21 @@
+-- `s2xv2_flat_in::mode_in` meets its contract: the test picks the case.
+-- Assumes nothing.
+use mathlib.Core.Path.{sym, _∙_}
+use borrow.Author.Needs.{needs}
+use Rattle.s2xv2_flat_in.proofs.mode_in.Statement.{statement}
+use Rattle.s2xv2_flat_in.proofs.mode_in.Tie as tie
+
+is-one-requires : tie.Need-is-one-requires
+is-one-requires c κs = search needs
+
+from-u8-requires : tie.Need-from-u8-requires
+from-u8-requires c κs = search needs
+
+returns : tie.Need-returns
+returns c = simp (sym (c .before .is-one .ensures) ∙ c .if1 .taken)
+
+returns-2 : tie.Need-returns-2
+returns-2 c = simp (c .from-u8 .ensures, sym (c .before .before .is-one .ensures) ∙ c .before .if1 .left)
+
+pub mode-in-spec : {M : Type 1} → statement M
+mode-in-spec = tie.close (tie.spec is-one-requires from-u8-requires returns returns-2)

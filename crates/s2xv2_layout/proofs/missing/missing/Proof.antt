@@ -1,0 +1,66 @@
+-- `s2xv2_layout::missing::missing` meets its contract: each call puts the answer of one part in front.
+-- Assumes nothing.
+use borrow.Author.Needs.{needs}
+use Rattle.s2xv2_layout.proofs.missing.missing.Statement.{statement}
+use Rattle.s2xv2_layout.proofs.missing.missing.Tie as tie
+
+reaching-requires : tie.Need-reaching-requires
+reaching-requires c κs = search needs
+
+reaching-requires-2 : tie.Need-reaching-requires-2
+reaching-requires-2 c κs = search needs
+
+reaching-requires-3 : tie.Need-reaching-requires-3
+reaching-requires-3 c κs = search needs
+
+reaching-requires-4 : tie.Need-reaching-requires-4
+reaching-requires-4 c κs = search needs
+
+reaching-requires-5 : tie.Need-reaching-requires-5
+reaching-requires-5 c κs = search needs
+
+reaching-requires-6 : tie.Need-reaching-requires-6
+reaching-requires-6 c κs = search needs
+
+reaching-requires-7 : tie.Need-reaching-requires-7
+reaching-requires-7 c κs = search needs
+
+reaching-requires-8 : tie.Need-reaching-requires-8
+reaching-requires-8 c κs = search needs
+
+reaching-requires-9 : tie.Need-reaching-requires-9
+reaching-requires-9 c κs = search needs
+
+reaching-requires-10 : tie.Need-reaching-requires-10
+reaching-requires-10 c κs = search needs
+
+returns : tie.Need-returns
+returns c =
+    simp (
+      c .reaching10 .ensures,
+      c .before .reaching9 .ensures,
+      c .before .before .reaching8 .ensures,
+      c .before .before .before .reaching7 .ensures,
+      c .before .before .before .before .reaching6 .ensures,
+      c .before .before .before .before .before .reaching5 .ensures,
+      c .before .before .before .before .before .before .reaching4 .ensures,
+      c .before .before .before .before .before .before .before .reaching3 .ensures,
+      c .before .before .before .before .before .before .before .before .reaching2 .ensures,
+      c .before .before .before .before .before .before .before .before .before .reaching .ensures,
+    )
+
+pub missing-spec : {M : Type 1} → statement M
+missing-spec =
+    tie.close
+    (tie.spec
+    reaching-requires
+    reaching-requires-2
+    reaching-requires-3
+    reaching-requires-4
+    reaching-requires-5
+    reaching-requires-6
+    reaching-requires-7
+    reaching-requires-8
+    reaching-requires-9
+    reaching-requires-10
+    returns)

@@ -1,0 +1,59 @@
+-- What `Rattle.s2xv2.specs.Read` says of a body, as the structs of this crate hold it: `presentNow` has the parts that its core asks for, `asked` are
+-- the parts that such a struct names, `endsNow` has where each of them ends, and `needsTo` lists the ends with their places. Assumes nothing.
+use Prim.Native.Nat.{ℕ}
+use mathlib.Core.List.{List, [], _∷_}
+use Rattle.wire.specs.Widths.{size}
+use Rattle.s2xv2.specs.Table144b as T
+use Rattle.s2xv2.specs.Read as R
+use Rattle.s2xv2.specs.Read.{presentIn, streamEnd, scramblingEnd, timesliceEnd, headerEnd, firstIdEnd, hasSecond, bondEnd, blockEnd, hasPlan, planEnd, superframeEnd}
+use Rattle.answers.specs.Short.{Need, _to_}
+use Rattle.s2xv2_layout.specs.declared.present.Present.{Present}
+use Rattle.s2xv2_layout.specs.declared.ends.Ends.{Ends}
+
+abbrev pub presentNow : List ℕ → Present
+presentNow s = record {
+  stream = presentIn s .stream;
+  scrambling = presentIn s .scrambling;
+  timeslice = presentIn s .timeslice;
+  bond = presentIn s .bond;
+  superframe = presentIn s .superframe;
+}
+
+abbrev pub asked : Present → R.Present
+asked k = record {
+  stream = k .stream;
+  scrambling = k .scrambling;
+  timeslice = k .timeslice;
+  bond = k .bond;
+  superframe = k .superframe;
+}
+
+abbrev pub endsNow : List ℕ → Present → Ends
+endsNow s k = record {
+  stream = streamEnd (asked k);
+  scrambling = scramblingEnd (asked k);
+  timeslice = timesliceEnd (asked k);
+  header = headerEnd (asked k);
+  «first_id» = firstIdEnd (asked k);
+  second = hasSecond s (timesliceEnd (asked k));
+  bond = bondEnd s (asked k);
+  block = blockEnd s (asked k);
+  plan = hasPlan s (bondEnd s (asked k));
+  «plan_id» = planEnd s (asked k);
+  superframe = superframeEnd s (asked k);
+}
+
+-- in wire order
+abbrev pub needsTo : Ends → List Need
+needsTo e =
+    1 to size T.core
+    ∷ 2 to e .stream
+    ∷ 3 to e .scrambling
+    ∷ 4 to e .timeslice
+    ∷ 5 to e .header
+    ∷ 6 to e .«first_id»
+    ∷ 6 to e .bond
+    ∷ 7 to e .block
+    ∷ 8 to e .«plan_id»
+    ∷ 9 to e .superframe
+    ∷ []

@@ -1,0 +1,27 @@
+-- `s2xv2_measure::checks::bonds_fit` meets its contract: the tests that hold bound the numbers.
+-- Assumes nothing.
+use mathlib.Core.Path.{refl, sym, _∙_}
+use lib.Dec.{ltb}
+use borrow.Author.Tests.{le-ltb, lt-leb, eq-eqb, ne-eqb, eqb-true}
+use Rattle.wire.proofs.Flags.{never, and-false}
+use Rattle.s2xv2_measure.proofs.Flags.{fits}
+use borrow.Author.Needs.{needs}
+use Rattle.s2xv2_measure.proofs.checks.bonds_fit.Statement.{statement}
+use Rattle.s2xv2_measure.proofs.checks.bonds_fit.Tie as tie
+
+less-one-requires : tie.Need-less-one-requires
+less-one-requires c κs = search needs
+
+returns : tie.Need-returns
+returns c =
+    let a = c .before .before .before .args in
+    λ e. rw (eq-eqb _ _ (c .before .before .if1 .taken)) (and-false (ltb 0 (a .count)), (lt-leb 2 _ (rw (c .before .less-one .ensures) at (c .if2 .taken)), (fits 128 (a .reserved) e, tt)))
+
+returns-2 : tie.Need-returns-2
+returns-2 c = λ e. never (sym (le-ltb _ _ (c .if2 .left)) ∙ e)
+
+returns-3 : tie.Need-returns-3
+returns-3 c = λ e. rw (ne-eqb _ _ (c .if1 .left), eqb-true (c .before .args .count) 0 e) (refl, (refl, (refl, tt)))
+
+pub bonds-fit-spec : {M : Type 1} → statement M
+bonds-fit-spec = tie.close (tie.spec less-one-requires returns returns-2 returns-3)

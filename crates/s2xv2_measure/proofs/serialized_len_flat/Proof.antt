@@ -1,0 +1,43 @@
+-- `s2xv2_measure::serialized_len_flat` meets its contract: the tests pick the case; what nothing refuses is accepted with its length.
+-- Assumes nothing.
+use mathlib.Core.Path.{sym, _∙_}
+use borrow.Author.Needs.{needs}
+use Rattle.s2xv2_measure.proofs.serialized_len_flat.Statement.{statement}
+use Rattle.s2xv2_measure.proofs.serialized_len_flat.Tie as tie
+
+is-valid-requires : tie.Need-is-valid-requires
+is-valid-requires c κs = search needs
+
+ready-len-requires : tie.Need-ready-len-requires
+ready-len-requires c κs = sym (c .before .is-valid .ensures) ∙ c .if1 .taken
+
+judged-len-requires : tie.Need-judged-len-requires
+judged-len-requires c κs = sym (c .before .before .before .is-valid .ensures) ∙ c .before .before .if1 .taken
+
+answer-out-requires : tie.Need-answer-out-requires
+answer-out-requires c κs = search needs
+
+answer-of-requires : tie.Need-answer-of-requires
+answer-of-requires c κs = search needs
+
+returns : tie.Need-returns
+returns c = simp (c .answer-out .ensures, c .before .judged-len .ensures, sym (c .before .before .before .before .before .is-valid .ensures) ∙ c .before .before .before .before .if1 .taken)
+
+returns-2 : tie.Need-returns-2
+returns-2 c = simp (c .answer-of .ensures, c .before .before .ready-len .ensures (c .before .if2 .left) .0, sym (c .before .before .before .before .is-valid .ensures) ∙ c .before .before .before .if1 .taken)
+
+returns-3 : tie.Need-returns-3
+returns-3 c = simp (sym (c .before .is-valid .ensures) ∙ c .if1 .left)
+
+pub serialized-len-flat-spec : {M : Type 1} → statement M
+serialized-len-flat-spec =
+    tie.close
+    (tie.spec
+    is-valid-requires
+    ready-len-requires
+    judged-len-requires
+    answer-out-requires
+    answer-of-requires
+    returns
+    returns-2
+    returns-3)

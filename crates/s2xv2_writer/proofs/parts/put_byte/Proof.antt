@@ -1,0 +1,34 @@
+-- `s2xv2_writer::parts::put_byte` meets its contract: in each case.
+-- Assumes nothing.
+use mathlib.Core.Path.{refl, sym}
+use native.Mathlib.Omega.{arith}
+use native.Mathlib.Nat.{add-zero}
+use Rattle.wire.specs.Store.{storedFrom}
+use borrow.Author.Tests.{eq-eqb, ne-eqb}
+use Rattle.s2xv2.specs.Encode.{byteParts}
+use borrow.Author.Needs.{needs}
+use Rattle.s2xv2_writer.proofs.parts.put_byte.Statement.{statement}
+use Rattle.s2xv2_writer.proofs.parts.put_byte.Tie as tie
+
+put-requires : tie.Need-put-requires
+unfolding byteParts
+put-requires c κs =
+    let h = rw (eq-eqb _ _ (c .before .if1 .taken)) at (c .before .before .before .pre) in
+    omega arith
+
+add-result : tie.Need-add-result
+add-result c = search needs
+
+same-length : tie.Need-same-length
+same-length c = search needs
+
+returns : tie.Need-returns
+unfolding byteParts
+returns c = rw (eq-eqb _ _ (c .before .before .before .before .if1 .taken)) (refl, c .before .before .put .ensures)
+
+returns-2 : tie.Need-returns-2
+unfolding byteParts storedFrom
+returns-2 c = rw (ne-eqb _ _ (c .if1 .left)) (sym (add-zero _), refl)
+
+pub put-byte-spec : {M : Type 1} → statement M
+put-byte-spec = tie.close (tie.spec put-requires add-result same-length returns returns-2)

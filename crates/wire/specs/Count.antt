@@ -1,0 +1,7 @@
+-- A count as it stands on the wire: `lessOne`. Assumes nothing.
+use Prim.Native.Nat.{ℕ, zero, suc}
+
+-- the count minus one, with the wrap of a byte
+abbrev pub lessOne : ℕ → ℕ
+lessOne zero = 255
+lessOne (suc n) = n
