@@ -5,12 +5,12 @@ ghost use Prim.Native.Nat.{_+_, _≤_};
 ghost use Rattle.answers.specs.Answer.{numbers};
 ghost use Rattle.job.specs.Job.{jobOf};
 ghost use Rattle.begin.specs.Begin.{Sized, noJob, fitTold, stageTold, begunSeen, answered, beginOf};
+use answers::answer::Answer;
+use answers::answer::Refusal;
 use form::envelope::EXTENSION;
 use form::envelope::TAG;
 use form::good::in_form;
 use job::job::Job;
-use answers::answer::Answer;
-use answers::answer::Refusal;
 use s2xv2::record::S2Xv2SatelliteDeliverySystem;
 
 // The answer, and the job: where begin is refused all of its bytes and numbers are 0, and step refuses it.

@@ -8,11 +8,11 @@ ghost use Rattle.s2xv2.specs.Write.{writeTold, written};
 ghost use Rattle.capi.specs.Part.{tailPart, partIn};
 ghost use Rattle.s2xv2_flat.specs.Output.{answerOut, recordOut};
 ghost use Rattle.s2xv2_flat_in.specs.Input.{meant, valid, foreign};
+use answers::answer::Answer;
 use s2xv2_flat::types::FlatAnswer;
 use s2xv2_flat::types::FlatParsed;
 use s2xv2_flat::types::FlatPart;
 use s2xv2_flat::types::FlatRecord;
-use answers::answer::Answer;
 
 // `parse` of the library: the answer, whose first number is where the tail starts, and the record.
 #[no_mangle]

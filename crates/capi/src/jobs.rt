@@ -7,15 +7,15 @@ ghost use Rattle.s2xv2_flat_in.specs.Input.{meant, valid, foreign};
 ghost use Rattle.job.specs.Step.{stepTold, stepOf, slotAfter};
 ghost use Rattle.begin.specs.Begin.{noJob, beginOf};
 ghost use Rattle.job.specs.Job.{jobOf};
-ghost use Rattle.capi.specs.Job.{numberIn, advancedOut, steppedOut, movedOut};
+ghost use Rattle.capi.specs.Job.{numberIn, steppedOut, movedOut, SteppedInPlace};
+use job::job::Job;
+use job::job::StepAnswer;
 use s2xv2_flat::output::answer_out;
 use s2xv2_flat::types::FOREIGN;
 use s2xv2_flat::types::FlatAnswer;
 use s2xv2_flat::types::FlatRecord;
 use s2xv2_flat_in::is_valid;
 use s2xv2_flat_in::record_in;
-use job::job::Job;
-use job::job::StepAnswer;
 use wire::field::bit_of;
 
 // The answer, and the job: if begin is refused, zeros.
@@ -125,7 +125,7 @@ fn advanced(
 // nothing and leaves the job as it was.
 #[no_mangle]
 pub extern "C" fn s2xv2_step_in_place(job: &mut Job, s: &mut [u8], allowance: usize) -> FlatAdvanced
-    ensures { λ r. ⌜ (r ≡ advancedOut (stepOf (now (job .entry)) (length (now (s .entry))) allowance)) × ((now (job .exit) ≡ stepOf (now (job .entry)) (length (now (s .entry))) allowance .job) × (now (s .exit) ≡ slotAfter (now (job .entry)) (now (s .entry)) allowance)) ⌝ }
+    ensures { λ r. ⌜ SteppedInPlace (now (job .entry)) (now (s .entry)) allowance r (now (job .exit)) (now (s .exit)) ⌝ }
 {
     let n = job.slot_size;
     let d = job.descriptor_size;

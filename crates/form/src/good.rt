@@ -6,7 +6,13 @@ ghost use Rattle.form.specs.Form.{goodSize, goodFirst, goodRest, goodFor
 use crate::envelope::EXTENSION;
 use crate::envelope::STUFFING_TAG;
 use crate::envelope::TAG;
-use crate::number::wide;
+
+// A byte as a number.
+fn wide(x: u8) -> usize
+    ensures { λ r. ⌜ (r ≡ x) × (r < 256) ⌝ }
+{
+    x as usize
+}
 
 // Whether a slot may have `n` bytes.
 pub fn is_size(n: usize) -> bool

@@ -2,4 +2,3 @@
 // stuffing. Nothing here knows what a body holds.
 pub mod envelope;
 pub mod good;
-mod number;

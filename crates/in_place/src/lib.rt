@@ -1,8 +1,5 @@
 // The second stepping call: the job stands where the caller keeps it.
-ghost use mathlib.Core.Path.{_≡_};
-ghost use lib.ListN.{length};
-ghost use Rattle.job.specs.Step.{stepOf, slotAfter};
-ghost use Rattle.in_place.specs.Advanced.{advancedSeen, tells};
+ghost use Rattle.in_place.specs.Advanced.{StepsInPlace};
 use job::job::Job;
 use job::job::StepAnswer;
 
@@ -16,7 +13,7 @@ pub struct Advanced {
 
 // Steps the job where it stands: the step by value, and the job stored back. A refused step stores nothing and leaves the job as it was.
 pub fn step_in_place(job: &mut Job, slot: &mut [u8], allowance: usize) -> Advanced
-    ensures { λ r. ⌜ (advancedSeen r ≡ tells (stepOf (now (job .entry)) (length (now (slot .entry))) allowance)) × ((now (job .exit) ≡ stepOf (now (job .entry)) (length (now (slot .entry))) allowance .job) × (now (slot .exit) ≡ slotAfter (now (job .entry)) (now (slot .entry)) allowance)) ⌝ }
+    ensures { λ r. ⌜ StepsInPlace (now (job .entry)) (now (slot .entry)) allowance r (now (job .exit)) (now (slot .exit)) ⌝ }
 {
     let old = *job;
     let s = old.step(slot, allowance);

@@ -6,13 +6,7 @@ ghost use Rattle.lines.specs.Line.{lineOf, wordOf, wordsOf};
 use crate::number::decimal;
 use crate::put::copy;
 use crate::put::put;
-
-// A flag as a number.
-fn bit(b: bool) -> u64
-    ensures { λ r. ⌜ r ≡ bit b ⌝ }
-{
-    if b { 1 } else { 0 }
-}
+use wire::field::bit_of;
 
 // A name, a space, a number, a newline. Of a number from 10^10 on only the last ten digits are put.
 pub fn line(out: &mut [u8], at: usize, name: &[u8], value: u64) -> usize
@@ -42,7 +36,7 @@ pub fn line32(out: &mut [u8], at: usize, name: &[u8], number: u32) -> usize
 pub fn flag(out: &mut [u8], at: usize, name: &[u8], value: bool) -> usize
     ensures { λ r. ⌜ Wrote (now (out .entry) from at) (lineOf (now (name .entry)) (bit value)) (now (out .exit) from r) ⌝ }
 {
-    line(out, at, name, bit(value))
+    line8(out, at, name, bit_of(value))
 }
 
 // A space and a number.

@@ -1,8 +1,8 @@
 // A record from plain numbers, in the order of `shown`.
-use s2xv2::mode::S2Xv2Mode;
 use answers::option::OptionBool;
 use answers::option::OptionU8;
 use answers::option::OptionU32;
+use s2xv2::mode::S2Xv2Mode;
 use s2xv2::record::S2Xv2SatelliteDeliverySystem;
 use s2xv2::superframe::OptionSuperframe;
 use s2xv2::superframe::S2Xv2Superframe;

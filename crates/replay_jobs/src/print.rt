@@ -1,8 +1,8 @@
 // What is printed.
-use job::job::Job;
-use job::job::StepAnswer;
 use answers::answer::Answer;
 use answers::answer::Refusal;
+use job::job::Job;
+use job::job::StepAnswer;
 
 // Prints a text and a number.
 pub(crate) fn word(text: &[u8], n: u32) {

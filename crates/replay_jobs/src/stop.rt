@@ -6,10 +6,10 @@ use crate::sample::copy;
 use crate::sample::put;
 use crate::sample::put_bytes;
 use crate::sample::put_size;
-use job::job::Job;
-use job::job::Stepped;
 use answers::answer::Answer;
 use answers::answer::Refusal;
+use job::job::Job;
+use job::job::Stepped;
 use s2xv2::record::S2Xv2SatelliteDeliverySystem;
 use slot::answer::SlotAnswer;
 

@@ -2,10 +2,10 @@
 ghost use mathlib.Core.Path.{_≡_};
 ghost use Rattle.s2xv2.specs.Default.{defaultRecord};
 use crate::mode::S2Xv2Mode;
+use crate::superframe::OptionSuperframe;
 use answers::option::OptionBool;
 use answers::option::OptionU8;
 use answers::option::OptionU32;
-use crate::superframe::OptionSuperframe;
 
 // The record: the fields of a body in wire order.
 pub struct S2Xv2SatelliteDeliverySystem {

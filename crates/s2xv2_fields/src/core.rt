@@ -5,12 +5,12 @@ ghost use Rattle.lines.specs.Out.{_from_, Wrote, joined};
 ghost use Rattle.s2xv2.specs.Table144c.{codeOf};
 ghost use Rattle.lines.specs.Line.{codes, lineOf};
 ghost use Rattle.s2xv2_fields.specs.Fields.{coreLines, topOf, coreText};
+use answers::option::OptionBool;
 use lines::line::flag;
 use lines::line::line;
 use lines::line::line8;
 use lines::line::line32;
 use s2xv2::mode::S2Xv2Mode;
-use answers::option::OptionBool;
 use s2xv2::record::S2Xv2SatelliteDeliverySystem;
 
 // The mode, by its code.

@@ -2,10 +2,10 @@
 ghost use Rattle.lines.specs.Out.{_from_, Wrote};
 ghost use Rattle.lines.specs.Line.{codes, lineOf};
 ghost use Rattle.s2xv2_fields.specs.Fields.{line8 as Fields·line8, scramblingOf, secondOf, bondsOf, partsText};
-use lines::line::line8;
-use lines::line::line32;
 use answers::option::OptionU8;
 use answers::option::OptionU32;
+use lines::line::line8;
+use lines::line::line32;
 use s2xv2::record::S2Xv2SatelliteDeliverySystem;
 
 // A part of one byte, where it is there.

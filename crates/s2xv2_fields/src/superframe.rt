@@ -2,11 +2,11 @@
 ghost use lib.ListN.{take, drop};
 ghost use Rattle.lines.specs.Out.{_from_, Wrote, joined};
 ghost use Rattle.s2xv2_fields.specs.Fields.{line32 as Fields·line32, nibbleLine, blockLines, superframeText};
+use answers::option::OptionU8;
+use answers::option::OptionU32;
 use lines::line::flag;
 use lines::line::line8;
 use lines::line::line32;
-use answers::option::OptionU8;
-use answers::option::OptionU32;
 use s2xv2::superframe::OptionSuperframe;
 use s2xv2::superframe::S2Xv2Superframe;
 

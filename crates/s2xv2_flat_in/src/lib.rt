@@ -6,15 +6,15 @@ ghost use Rattle.answers.specs.Options.{someBoolIf, some8If, some32If};
 ghost use Rattle.s2xv2.specs.OptionSuperframe.{someSuperframeIf};
 ghost use Rattle.s2xv2_flat.specs.Core.{coreOf};
 ghost use Rattle.s2xv2_flat_in.specs.Input.{modeIn, blockIn, meant, blockFlags, recordFlags, flags, allowed, named, valid};
-use s2xv2_flat::types::FlatRecord;
-use s2xv2_flat::types::FlatSuperframe;
-use s2xv2::mode::S2Xv2Mode;
 use answers::option::OptionBool;
 use answers::option::OptionU8;
 use answers::option::OptionU32;
+use s2xv2::mode::S2Xv2Mode;
 use s2xv2::record::S2Xv2SatelliteDeliverySystem;
 use s2xv2::superframe::OptionSuperframe;
 use s2xv2::superframe::S2Xv2Superframe;
+use s2xv2_flat::types::FlatRecord;
+use s2xv2_flat::types::FlatSuperframe;
 use wire::field::bit_of;
 use wire::field::joined;
 

@@ -6,10 +6,10 @@ ghost use Rattle.answers.specs.Options.{isSomeBool, isSome8, isSome32};
 ghost use Rattle.s2xv2.specs.OptionSuperframe.{isSomeSuperframe};
 ghost use Rattle.s2xv2.specs.ListA.{misnamed, inSuperframe, inconsistency};
 use crate::first::first_from;
-use s2xv2::mode::S2Xv2Mode;
 use answers::option::OptionBool;
 use answers::option::OptionU8;
 use answers::option::OptionU32;
+use s2xv2::mode::S2Xv2Mode;
 use s2xv2::record::S2Xv2SatelliteDeliverySystem;
 use s2xv2::superframe::OptionSuperframe;
 

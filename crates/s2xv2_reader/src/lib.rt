@@ -2,6 +2,10 @@
 ghost use mathlib.Core.Path.{_≡_};
 ghost use Rattle.s2xv2.specs.Read.{readOf, tailOf};
 ghost use Rattle.s2xv2_reader.specs.Seen.{seen, flatSeen, flatRefused, answerIn};
+use answers::answer::Answer;
+use answers::answer::Refusal;
+use answers::answer::saturated;
+use s2xv2::record::S2Xv2SatelliteDeliverySystem;
 use s2xv2_flat::output::answer_of;
 use s2xv2_flat::output::answer_out;
 use s2xv2_flat::output::record_out;
@@ -11,10 +15,6 @@ use s2xv2_flat_in::record_in;
 use s2xv2_layout::ends::ends_of;
 use s2xv2_layout::missing::missing;
 use s2xv2_layout::present::present_in;
-use answers::answer::Answer;
-use answers::answer::Refusal;
-use answers::answer::saturated;
-use s2xv2::record::S2Xv2SatelliteDeliverySystem;
 
 mod bytes;
 mod parts;

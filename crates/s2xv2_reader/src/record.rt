@@ -15,6 +15,7 @@ use crate::parts::block_at;
 use crate::parts::bonds_at;
 use crate::parts::byte_at;
 use crate::parts::scrambling_at;
+use s2xv2::mode::S2Xv2Mode;
 use s2xv2_flat::output::is_reserved;
 use s2xv2_flat::types::FlatRecord;
 use s2xv2_flat::types::FlatSuperframe;
@@ -22,7 +23,6 @@ use s2xv2_flat::types::NO_BLOCK;
 use s2xv2_flat::types::NOTHING;
 use s2xv2_layout::ends::Ends;
 use s2xv2_layout::present::Present;
-use s2xv2::mode::S2Xv2Mode;
 use wire::field::bit_of;
 use wire::field::flag;
 

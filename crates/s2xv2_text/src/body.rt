@@ -3,16 +3,16 @@ ghost use Rattle.answers.specs.Answer.{numbers as Answer·numbers};
 ghost use Rattle.lines.specs.Out.{_from_, Wrote};
 ghost use Rattle.lines.specs.Line.{wordsOf, refusedOf};
 ghost use Rattle.s2xv2_text.specs.Dump.{bodyOf, dumpOf};
-use s2xv2_fields::core::core;
-use s2xv2_fields::parts::parts;
-use s2xv2_fields::superframe::superframe;
+use answers::answer::Answer;
+use answers::answer::Refusal;
 use lines::line::line;
 use lines::line::words;
 use lines::put::copy;
 use lines::put::put;
-use answers::answer::Answer;
-use answers::answer::Refusal;
 use s2xv2::record::S2Xv2SatelliteDeliverySystem;
+use s2xv2_fields::core::core;
+use s2xv2_fields::parts::parts;
+use s2xv2_fields::superframe::superframe;
 
 // A refusal's number, and the numbers that it tells.
 fn numbers(out: &mut [u8], at: usize, why: Refusal) -> usize

@@ -12,14 +12,14 @@ ghost use Rattle.s2xv2.specs.Write.{writeTold, written};
 ghost use Rattle.answers.proofs.Tests.{Clear};
 ghost use Rattle.s2xv2_flat_in.specs.Input.{meant, valid, foreign};
 ghost use Rattle.s2xv2_flat.specs.Output.{answerOut};
+use answers::answer::Answer;
+use s2xv2::record::S2Xv2SatelliteDeliverySystem;
 use s2xv2_flat::output::record_out;
 use s2xv2_flat::types::FlatAnswer;
 use s2xv2_flat::types::FlatRecord;
 use s2xv2_lists::list_b::less_one;
 use s2xv2_measure::write_answer;
 use s2xv2_measure::write_answer_flat;
-use answers::answer::Answer;
-use s2xv2::record::S2Xv2SatelliteDeliverySystem;
 
 mod parts;
 mod store;

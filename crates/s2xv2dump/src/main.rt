@@ -1,10 +1,10 @@
 // Prints the text of the body on standard input, of which it reads at most 4,097 bytes.
 ghost use Prim.Native.Nat.{_≤_};
 ghost use lib.ListN.{length};
+use answers::answer::Answer;
 use libc::STDERR_FILENO;
 use libc::STDIN_FILENO;
 use libc::STDOUT_FILENO;
-use answers::answer::Answer;
 
 // How far the input has come, and whether every read succeeded.
 struct Input {

@@ -5,10 +5,10 @@ ghost use Rattle.form.specs.Envelope.{filler};
 ghost use Rattle.slot.specs.Answer.{slotTold};
 ghost use Rattle.slot.specs.Empty.{emptyTold, emptied};
 use crate::answer::SlotAnswer;
+use answers::answer::Refusal;
 use form::envelope::FILLER;
 use form::envelope::STUFFING_TAG;
 use form::good::is_size;
-use answers::answer::Refusal;
 
 // Stores the filler in every byte.
 fn fill(slot: &mut [u8])

@@ -11,10 +11,10 @@ ghost use Rattle.slot.specs.Answer.{slotTold, slotSeen};
 ghost use Rattle.slot.specs.Read.{placed, shown};
 use crate::answer::SlotAnswer;
 use crate::answer::SlotRead;
-use form::envelope::STUFFING_TAG;
-use form::good::in_form;
 use answers::answer::Answer;
 use answers::answer::Refusal;
+use form::envelope::STUFFING_TAG;
+use form::good::in_form;
 use s2xv2::record::S2Xv2SatelliteDeliverySystem;
 
 // The body of the first descriptor, which is one of ours.

@@ -91,7 +91,7 @@ module _ {M : Type 1} (𝓤 : URA M) (H : Heap 𝓤) (A : Atoms 𝓤) (W : Given
   exits r zs e l is =
       qed W (‵ (fobs γ (R .coded .code (r .job))) ∷ ‵ (fbor κ (Body (mem R) b o γ)) ∷ ‵ (flft κ q) ∷ (‵ (flft κ′ q′) ⊛ ‵ ftrue) ∷ ‵ (finally u8 γ′ zs) ∷ []) ∵
       suffices ! _ (ends-at 𝓤 H A place.ended stayed (place.clauses 𝓤 H A at-mem run) W (((κ, (κ′, tt)), (q, (q′, tt)), tt, (lentArgs lent), (lentVals lent)), tt) (Ad′.lowered (restOf r)) (restOf r) (r .job, (zs, (tt, tt))) (tt, (l, (tt, tt)))) $
-      says ! (ap tells (e .0), (ap (λ (t : Steps). t .job) (e .0), e .1)) $
+      says ! (record { told = ap tells (e .0); job = ap (λ (t : Steps). t .job) (e .0); left = e .1 }) $
       move ! (2 ∷ 3 ∷ []) $ join ! $ frame ! $ feqI ! (List Val) (vptr b o ∷ []) (vptr b o ∷ []) refl $ fjoin3 ! $
       nothing ! $ owned ! usize (Is usize) (uint-makes 𝓤 H A W w64) n _ (refl, n-fits) $ fjoin ! $ move ! (2 ∷ 0 ∷ []) $ fjoin ! $ move ! (1 ∷ 0 ∷ []) $ fjoin ! $
       owned ! Ad.the-row (Is Ad.the-row) (LL.makes Ad.the-type Ad′.the-plain 𝓤 H A) (restOf r) _ is $ move ! (1 ∷ 0 ∷ []) $ done !

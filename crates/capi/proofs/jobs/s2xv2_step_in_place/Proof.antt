@@ -152,7 +152,7 @@ module _ {M : Type 1} (𝓤 : URA M) (H : Heap 𝓤) (A : Atoms 𝓤) (W : Given
   exits r zs e l is =
       qed W (‵ (fobs γ (R .coded .code (h₁ r))) ∷ ‵ (fbor κ (Body (mem R) b o γ)) ∷ ‵ (flft κ q) ∷ (‵ (flft κ′ q′) ⊛ ‵ ftrue) ∷ ‵ (finally u8 γ′ zs) ∷ []) ∵
       suffices ! _ (ends-at 𝓤 H A place.ended stayed (place.clauses 𝓤 H A at-mem run) W (((κ, (κ′, tt)), (q, (q′, tt)), tt, (lentArgs lent), (lentVals lent)), tt) (Ad′.lowered (rest r)) (rest r) (h₁ r, (zs, (tt, tt))) (tt, (l, (tt, tt)))) $
-      says ! (ap rest (e .0), (ap h₁ (e .0) ∙ step-keeps h (length ys) n, e .1)) $
+      says ! (record { told = ap rest (e .0); job = ap h₁ (e .0) ∙ step-keeps h (length ys) n; left = e .1 }) $
       move ! (2 ∷ 3 ∷ []) $ join ! $ frame ! $ feqI ! (List Val) (vptr b o ∷ []) (vptr b o ∷ []) refl $ fjoin3 ! $
       nothing ! $ owned ! usize (Is usize) (uint-makes 𝓤 H A W w64) n _ (refl, n-fits) $ fjoin ! $ move ! (2 ∷ 0 ∷ []) $ fjoin ! $ move ! (1 ∷ 0 ∷ []) $ fjoin ! $
       owned ! Ad.the-row (Is Ad.the-row) (LL.makes Ad.the-type Ad′.the-plain 𝓤 H A) (rest r) _ is $ move ! (1 ∷ 0 ∷ []) $ done !

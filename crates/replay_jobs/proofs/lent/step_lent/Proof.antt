@@ -51,7 +51,7 @@ use Rattle.job.proofs.job.Job.Laws as T′
 use Rattle.job.proofs.job.Stepped as S
 use Rattle.job.proofs.job.Stepped.Laws as S′
 use Rattle.in_place.specs.declared.Advanced.{Advanced}
-use Rattle.in_place.specs.Advanced.{tells, advancedSeen}
+use Rattle.in_place.specs.Advanced.{tells, advancedSeen, StepsInPlace}
 use Rattle.in_place.proofs.Advanced as Ad
 use Rattle.in_place.proofs.Advanced.Laws as Ad′
 use Rattle.in_place.proofs.step_in_place as place′
@@ -75,7 +75,7 @@ abbrev answer : Advanced → Job → Stepped
 answer r j = record { job = j; answer = r .answer; stores = r .stores; done = r .done }
 
 abbrev Said : Job → List ℕ → ℕ → Advanced → Job → List ℕ → Type 0
-Said h ys n r j zs = (advancedSeen r ≡ tells (stepOf h (length ys) n)) × ((j ≡ stepOf h (length ys) n .job) × (zs ≡ slotAfter h ys n))
+Said h ys n r j zs = StepsInPlace h ys n r j zs
 
 answers : (s : Steps) (r : Advanced) (j : Job) → advancedSeen r ≡ tells s → j ≡ s .job → stepSeen (answer r j) ≡ s
 answers s r j e p = λ i. record { told = e i .told; made = e i .made; done = e i .done; job = p i }
@@ -137,7 +137,7 @@ module _ {M : Type 1} (𝓤 : URA M) (H : Heap 𝓤) (A : Atoms 𝓤) (W : Given
   exits r j zs e l is =
       qed W ((‵ (flft κ q) ⊛ ‵ ftrue) ∷ ‵ (finally u8 γ′ zs) ∷ []) ∵
       suffices ! _ (ends-at 𝓤 H A lends.ended stayed (lends.clauses 𝓤 H A at-mem run) W (((κ, tt), (q, tt), tt, a, vals), tt) (S′.lowered (answer r j)) (answer r j) (tt, (zs, (tt, tt))) (tt, (l, (tt, tt)))) $
-      says ! (answers (stepOf h (length ys) n) r j (e .0) (e .1 .0), e .1 .1) $ frame ! $
+      says ! (answers (stepOf h (length ys) n) r j (e .told) (e .job), e .left) $ frame ! $
       nothing ! $ owned ! usize (Is usize) (uint-makes 𝓤 H A W w64) n _ (refl, n-fits) $ fjoin ! $ move ! (1 ∷ 0 ∷ []) $ fjoin ! $ owned ! R (Is R) (LL.makes T.the-type T′.the-plain 𝓤 H A) h _ g $ fjoin ! $
       owned ! S.the-row (Is S.the-row) (LL.makes S.the-type S′.the-plain 𝓤 H A) (answer r j) _ is $ move ! (1 ∷ 0 ∷ []) $ done !
 

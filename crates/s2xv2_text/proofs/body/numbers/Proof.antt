@@ -40,8 +40,8 @@ returns c =
     let why = start .before .before .args .why in
     let count : length (numbers why) - 0 ≡ length (numbers why) = omega arith in
     let e = ap (λ (t : Told). wordsOf (take (t .count - 0) (t .numbers))) (start .told .ensures)
-        ∙ ap (λ (n : ℕ). wordsOf (take n (toldNow (numbers why) .numbers))) count
-        ∙ ap wordsOf (all-told why) in
+    ∙ ap (λ (n : ℕ). wordsOf (take n (toldNow (numbers why) .numbers))) count
+    ∙ ap wordsOf (all-told why) in
     same-text e (c .before .before .words .ensures)
 
 pub numbers-spec : {M : Type 1} → statement M
