@@ -101,14 +101,14 @@ module _ (s : List ℕ) (y : Bytes s) where
   -- the block's parts, from its fields
   block-parts : (p : ℕ) (d : Bool) (l : List ℕ) → hasPlan s p ≡ d
       → bytesOf (superframeParts (OS.Some (superframeAt s p d))) l
-      ≡ pack T.superframe (cut s p T.superframe) ++ bytesOf (planParts d (planAt s p d) ++ (T.superframeEnd ⦂ cut s (p + when d 11 7) T.superframeEnd ∷ [])) l
+      ≡ pack T.superframe (cut s p T.superframe) ++ bytesOf (planParts d (planAt s p d) ++ (T.lastByte ⦂ cut s (p + when d 11 7) T.lastByte ∷ [])) l
   unfolding superframeParts superframeAt
   block-parts p d l e =
-      ap (λ (vs : List ℕ). pack T.superframe vs ++ bytesOf (planParts (hasPlan s p) (planAt s p d) ++ (T.superframeEnd ⦂ cut s (p + when d 11 7) T.superframeEnd ∷ [])) l) (block-back p d)
-      ∙ ap (λ (t : Bool). pack T.superframe (cut s p T.superframe) ++ bytesOf (planParts t (planAt s p d) ++ (T.superframeEnd ⦂ cut s (p + when d 11 7) T.superframeEnd ∷ [])) l) e
+      ap (λ (vs : List ℕ). pack T.superframe vs ++ bytesOf (planParts (hasPlan s p) (planAt s p d) ++ (T.lastByte ⦂ cut s (p + when d 11 7) T.lastByte ∷ [])) l) (block-back p d)
+      ∙ ap (λ (t : Bool). pack T.superframe (cut s p T.superframe) ++ bytesOf (planParts t (planAt s p d) ++ (T.lastByte ⦂ cut s (p + when d 11 7) T.lastByte ∷ [])) l) e
 
-  last-encodes : (p q : ℕ) → p + 1 ≤ length s → p + 1 ≡ q → drop p s ≡ pack T.superframeEnd (cut s p T.superframeEnd) ++ drop q s
-  last-encodes p q h e = rw (← e) (found s p T.superframeEnd refl y h)
+  last-encodes : (p q : ℕ) → p + 1 ≤ length s → p + 1 ≡ q → drop p s ≡ pack T.lastByte (cut s p T.lastByte) ++ drop q s
+  last-encodes p q h e = rw (← e) (found s p T.lastByte refl y h)
 
   block-encodes : (p : ℕ) (d : Bool) → hasPlan s p ≡ d → p + superframeSize d ≤ length s
       → drop p s ≡ bytesOf (superframeParts (OS.Some (superframeAt s p d))) (drop (p + superframeSize d) s)

@@ -153,7 +153,7 @@ module _ (s : List ℕ) (y : Bytes s) where
   unfolding superframeAt
   block-clear true p =
       let f = fit-cut s p T.superframe refl y in
-      let g = fit-cut s (p + when (hasPlan s p) 11 7) T.superframeEnd refl y in (
+      let g = fit-cut s (p + when (hasPlan s p) 11 7) T.lastByte refl y in (
         not-wide 20 _ (f .1 .1 .1 .1 .0),
         (
           not-wide 20 _ (f .1 .1 .1 .1 .1 .1 .0),

@@ -141,8 +141,8 @@ bond-fits true r (suc (suc zero)) ids e f h k = ((narrow 7 r f, (omega arith, tt
 bond-fits true r (suc (suc (suc n))) ids e f h k = absurd (omega (arith, narrow 1 (suc (suc n)) e))
 bond-fits false r n ids e f h k = tt
 
-plan-fits : (t : Bool) (v : OptionU32) (f : S2Xv2Superframe) → orZero32 v < 2 ^ 32 → Fit T.superframeEnd (superframeEndValues f)
-    → AllFit (planParts t v ++ (T.superframeEnd ⦂ superframeEndValues f ∷ []))
+plan-fits : (t : Bool) (v : OptionU32) (f : S2Xv2Superframe) → orZero32 v < 2 ^ 32 → Fit T.lastByte (superframeEndValues f)
+    → AllFit (planParts t v ++ (T.lastByte ⦂ superframeEndValues f ∷ []))
 plan-fits true v f h k = ((h, tt), (k, tt))
 plan-fits false v f h k = (k, tt)
 

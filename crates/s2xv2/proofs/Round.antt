@@ -88,9 +88,9 @@ block-from : (f : S2Xv2Superframe) → AgreesBlock f → superframeFrom (superfr
 block-from f c = simp (is-bit, shared-sffi (f .«sffi_selector») (f .sffi) (f .«reserved_zero_future_use_4») (c .sffi), shared-nibble)
 
 block-at : (s : List ℕ) (p q : ℕ) (f : S2Xv2Superframe) (v : OptionU32) → AgreesBlock f → cut s p T.superframe ≡ superframeValues f → f .«beamhopping_time_plan_id» ≡ v
-    → cut s q T.superframeEnd ≡ superframeEndValues f → superframeFrom (cut s p T.superframe) v (cut s q T.superframeEnd) ≡ carriedBlock f
+    → cut s q T.lastByte ≡ superframeEndValues f → superframeFrom (cut s p T.superframe) v (cut s q T.lastByte) ≡ carriedBlock f
 block-at s p q f v c e₁ e₂ e₃ =
-    ap (λ (vs : List ℕ). superframeFrom vs v (cut s q T.superframeEnd)) e₁
+    ap (λ (vs : List ℕ). superframeFrom vs v (cut s q T.lastByte)) e₁
     ∙ ap (superframeFrom (superframeValues f) v) e₃
     ∙ ap (λ (w : OptionU32). superframeFrom (superframeValues f) w (superframeEndValues f)) (sym e₂)
     ∙ block-from f c
@@ -131,20 +131,20 @@ module _ (s : List ℕ) (b : Bytes s) where
 
   block-reads : {p : ℕ} (l : List ℕ) (f : S2Xv2Superframe) → AgreesBlock f → (t : Bool) → f .«beam_hopping_time_plan_selector» ≡ t
       → (v : OptionU32) → f .«beamhopping_time_plan_id» ≡ v
-      → Fit T.superframe (superframeValues f) → AllFit (planParts t v ++ (T.superframeEnd ⦂ superframeEndValues f ∷ []))
-      → Stands s p (pack T.superframe (superframeValues f) ++ bytesOf (planParts t v ++ (T.superframeEnd ⦂ superframeEndValues f ∷ [])) l)
+      → Fit T.superframe (superframeValues f) → AllFit (planParts t v ++ (T.lastByte ⦂ superframeEndValues f ∷ []))
+      → Stands s p (pack T.superframe (superframeValues f) ++ bytesOf (planParts t v ++ (T.lastByte ⦂ superframeEndValues f ∷ [])) l)
       → (hasPlan s p ≡ t) × (superframeAt s p t ≡ carriedBlock f)
   unfolding superframeAt
   block-reads {p} l f c true e (O32.Some v) d g k h =
       let x = find T.superframe (superframeValues f) refl g b h in
       let y = find T.plan (v ∷ []) refl (k .0) b (x .rest) in
-      let z = find T.superframeEnd (superframeEndValues f) refl (k .1 .0) b (rw (add-assoc p 7 4) at (y .rest)) in
+      let z = find T.lastByte (superframeEndValues f) refl (k .1 .0) b (rw (add-assoc p 7 4) at (y .rest)) in
       (ap isOne (nth 2 (x .fields)) ∙ is-bit _ ∙ e, simp (nth 0 (y .fields)) (block-at s p (p + 11) f (O32.Some v) c (x .fields) d (z .fields)))
   block-reads {p} l f c true e O32.None d g k h = never (sym (ap isSome32 d) ∙ c .plan ∙ e)
   block-reads {p} l f c false e (O32.Some v) d g k h = never (sym e ∙ sym (c .plan) ∙ ap isSome32 d)
   block-reads {p} l f c false e O32.None d g k h =
       let x = find T.superframe (superframeValues f) refl g b h in
-      let z = find T.superframeEnd (superframeEndValues f) refl (k .0) b (x .rest) in
+      let z = find T.lastByte (superframeEndValues f) refl (k .0) b (x .rest) in
       (ap isOne (nth 2 (x .fields)) ∙ is-bit _ ∙ e, block-at s p (p + 7) f O32.None c (x .fields) d (z .fields))
 
   superframe-reads : {p : ℕ} (l : List ℕ) (o : OptionSuperframe) → AgreesSuperframe o → AllFit (superframeParts o) → Stands s p (bytesOf (superframeParts o) l)
@@ -154,7 +154,7 @@ module _ (s : List ℕ) (b : Bytes s) where
       let x = block-reads l f c (f .«beam_hopping_time_plan_selector») refl (f .«beamhopping_time_plan_id») refl (k .0) (k .1) h in
       record { width = simp (x .0) (go (f .«beam_hopping_time_plan_selector»)); block = simp (x .0, x .1) }
     where
-      go : (t : Bool) → superframeSize t ≡ 7 + sizes (planParts t (f .«beamhopping_time_plan_id») ++ (T.superframeEnd ⦂ superframeEndValues f ∷ []))
+      go : (t : Bool) → superframeSize t ≡ 7 + sizes (planParts t (f .«beamhopping_time_plan_id») ++ (T.lastByte ⦂ superframeEndValues f ∷ []))
       go true = refl
       go false = refl
   superframe-reads {p} l OS.None c k h = record { width = refl; block = refl }

@@ -90,7 +90,7 @@ superframeEndValues f = f .«superframe_pilots_wh_sequence_number» ∷ f .«pos
 abbrev pub blockParts : S2Xv2Superframe → List Part
 blockParts f =
     T.superframe ⦂ superframeValues f
-    ∷ (planParts (f .«beam_hopping_time_plan_selector») (f .«beamhopping_time_plan_id») ++ (T.superframeEnd ⦂ superframeEndValues f ∷ []))
+    ∷ (planParts (f .«beam_hopping_time_plan_selector») (f .«beamhopping_time_plan_id») ++ (T.lastByte ⦂ superframeEndValues f ∷ []))
 
 abbrev pub blockLength : S2Xv2Superframe → ℕ
 blockLength f = sizes (blockParts f)

@@ -85,7 +85,7 @@ bondEnd s k = timesliceEnd k + only (k .bond) (bondSize (hasSecond s (timesliceE
 
 -- the block as long as it is without a plan id
 abbrev pub blockEnd : List ℕ → Present → ℕ
-blockEnd s k = bondEnd s k + only (k .superframe) (size (T.superframe ++ T.superframeEnd))
+blockEnd s k = bondEnd s k + only (k .superframe) (size (T.superframe ++ T.lastByte))
 
 -- beam_hopping_time_plan_selector is set: there is a plan id
 abbrev pub hasPlan : List ℕ → ℕ → Bool
@@ -93,13 +93,13 @@ hasPlan s p = read T.superframe s p (λ _ _ hopping _ _ _ _. isOne hopping)
 
 -- how far the plan id goes; without one, as far as the block
 abbrev pub planSize : Bool → ℕ
-planSize plan = when plan (size (T.superframe ++ T.plan)) (size (T.superframe ++ T.superframeEnd))
+planSize plan = when plan (size (T.superframe ++ T.plan)) (size (T.superframe ++ T.lastByte))
 
 abbrev pub planEnd : List ℕ → Present → ℕ
 planEnd s k = bondEnd s k + only (k .superframe) (planSize (hasPlan s (bondEnd s k)))
 
 abbrev pub superframeSize : Bool → ℕ
-superframeSize plan = when plan (size (T.superframe ++ T.plan ++ T.superframeEnd)) (size (T.superframe ++ T.superframeEnd))
+superframeSize plan = when plan (size (T.superframe ++ T.plan ++ T.lastByte)) (size (T.superframe ++ T.lastByte))
 
 abbrev pub superframeEnd : List ℕ → Present → ℕ
 superframeEnd s k = bondEnd s k + only (k .superframe) (superframeSize (hasPlan s (bondEnd s k)))
@@ -130,7 +130,7 @@ needs s k =
 -- the superframe block of its first fields, the plan id, and the fields of its last byte
 abbrev pub superframeFrom : List ℕ → OptionU32 → List ℕ → S2Xv2Superframe
 superframeFrom vs plan ws =
-    give T.superframe (λ sosf selector hopping reserved reference nibble payload. give T.superframeEnd (λ pilots pli. record {
+    give T.superframe (λ sosf selector hopping reserved reference nibble payload. give T.lastByte (λ pilots pli. record {
       «sosf_wh_sequence_number» = sosf;
       «sffi_selector» = isOne selector;
       «beam_hopping_time_plan_selector» = isOne hopping;
@@ -151,7 +151,7 @@ planAt s p plan = some32If plan (read T.plan s (p + size T.superframe) (λ id. i
 unfoldable pub superframeAt : List ℕ → ℕ → Bool → S2Xv2Superframe
 superframeAt s p plan =
     superframeFrom (cut s p T.superframe) (planAt s p plan)
-    (cut s (p + when plan (size (T.superframe ++ T.plan)) (size T.superframe)) T.superframeEnd)
+    (cut s (p + when plan (size (T.superframe ++ T.plan)) (size T.superframe)) T.lastByte)
 
 -- the other parts, that start with byte p if they are there
 abbrev pub streamIdAt : List ℕ → ℕ → Bool → OptionU8

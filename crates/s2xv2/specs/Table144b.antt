@@ -1,6 +1,6 @@
 -- EN 300 468, Table 144b: the widths of the fields of each part, in wire order. Reading cuts along these lists and writing packs along
 -- them; nothing else says where a field stands. `core`, `streamId`, `scrambling`, `timeslice`, `bondHeader`, `bondId`, `superframe`,
--- `plan`, `superframeEnd`. Assumes nothing.
+-- `plan`, `lastByte`. Assumes nothing.
 use Prim.Native.Nat.{ℕ}
 use mathlib.Core.List.{List, [], _∷_}
 
@@ -74,8 +74,8 @@ plan =
     ∷ []
 
 -- .. and in either case
-abbrev pub superframeEnd : List ℕ
-superframeEnd =
+abbrev pub lastByte : List ℕ
+lastByte =
     5  -- superframe_pilots_WH_sequence_number
     ∷ 3  -- postamble_PLI
     ∷ []

@@ -12,7 +12,7 @@ use lib.Dec.{ltb, leb}
 use borrow.Author.Tests.{ltb-true, lt-ltb, lt-leb, eq-eqb}
 use Rattle.wire.specs.Flags.{when, bit, isOne, and, joinedOf, only}
 use Rattle.wire.specs.Parts.{_⦂_, sizes}
-use Rattle.s2xv2.specs.Table144b.{superframeEnd}
+use Rattle.s2xv2.specs.Table144b.{lastByte}
 use Rattle.answers.specs.Options.{some32If}
 use Rattle.s2xv2.specs.Encode.{planParts, blockLength, superframeEndValues}
 use Rattle.s2xv2.specs.declared.superframe.S2Xv2Superframe.{S2Xv2Superframe}
@@ -143,7 +143,7 @@ block-there there f h e = rw (eq-eqb there 1 h) at (both-right (ltb there 2) _ e
 pub block-size : (f : FlatSuperframe) → f .«beam_hopping_time_plan_selector» < 2 → 8 + 4 * f .«beam_hopping_time_plan_selector» ≡ blockLength (blockIn f)
 block-size f h = go (f .«beam_hopping_time_plan_selector») (some32If (isOne (f .«has_beamhopping_time_plan_id»)) (f .«beamhopping_time_plan_id»)) (blockIn f) h
   where
-    go : (h : ℕ) (o : OptionU32) (b : S2Xv2Superframe) → h < 2 → 8 + 4 * h ≡ 7 + sizes (planParts (isOne h) o ++ (superframeEnd ⦂ superframeEndValues b ∷ []))
+    go : (h : ℕ) (o : OptionU32) (b : S2Xv2Superframe) → h < 2 → 8 + 4 * h ≡ 7 + sizes (planParts (isOne h) o ++ (lastByte ⦂ superframeEndValues b ∷ []))
     go zero o b k = refl
     go (suc zero) o b k = refl
     go (suc (suc n)) o b k = absurd (omega arith)

@@ -23,9 +23,9 @@ use s2xv2_lists::list_b::less_one;
 use wire::field::joined;
 use wire::field::picked;
 
-// What a mode asks for, as `seen` counts it: 1 for a scrambling selector, 2 for a timeslice, 4 for a superframe block,
+// What a mode asks for, as `parts_given` counts it: 1 for a scrambling selector, 2 for a timeslice, 4 for a superframe block,
 // 8 for a mode that has no name.
-fn due(code: u8) -> u32
+fn parts_asked(code: u8) -> u32
     ensures { λ r. ⌜ r ≡ bit (hasSelector (modeOf code)) + 2 * bit (hasTimeslice (modeOf code)) + 4 * bit (hasSuperframe (modeOf code)) + 8 * isReserved (modeOf code) ⌝ }
 {
     match code {
@@ -40,7 +40,7 @@ fn due(code: u8) -> u32
 }
 
 // The parts that a mode asks for, and whether it has no name, as one number.
-fn seen(selector: u8, timeslice: u8, superframe: u8, reserved: u8) -> u32
+fn parts_given(selector: u8, timeslice: u8, superframe: u8, reserved: u8) -> u32
     ensures { λ r. ⌜ r ≡ selector + 2 * timeslice + 4 * superframe + 8 * reserved ⌝ }
 {
     (selector as u32) + 2 * (timeslice as u32) + 4 * (superframe as u32) + 8 * (reserved as u32)
@@ -56,14 +56,14 @@ fn agrees(c: FlatRecord) -> bool
         c.has_scrambling_sequence_selector,
         c.scrambling_sequence_selector,
     );
-    let parts = seen(
+    let parts = parts_given(
         c.has_scrambling_sequence_selector,
         c.has_timeslice_number,
         c.has_superframe,
         c.mode_is_reserved,
     );
     c.has_input_stream_identifier == c.multiple_input_stream_flag
-        && parts == due(c.s2xv2_mode)
+        && parts == parts_asked(c.s2xv2_mode)
         && c.has_scrambling_sequence_index == scrambled
 }
 

@@ -20,7 +20,7 @@ use Rattle.s2xv2_flat.specs.declared.types.FlatRecord.{FlatRecord}
 
 unfoldable pub flatBlockAt : List ℕ → ℕ → Bool → FlatSuperframe
 flatBlockAt s p plan =
-    give T.superframe (λ sosf selector hopping reserved reference nibble payload. give T.superframeEnd (λ pilots pli. record {
+    give T.superframe (λ sosf selector hopping reserved reference nibble payload. give T.lastByte (λ pilots pli. record {
       «reference_scrambling_index» = reference;
       «payload_scrambling_index» = payload;
       «beamhopping_time_plan_id» = orZero32 (planAt s p plan);
@@ -34,7 +34,7 @@ flatBlockAt s p plan =
       «has_beamhopping_time_plan_id» = bit plan;
       «superframe_pilots_wh_sequence_number» = pilots;
       «postamble_pli» = pli;
-    }) (cut s (p + when plan (size (T.superframe ++ T.plan)) (size T.superframe)) T.superframeEnd)) (cut s p T.superframe)
+    }) (cut s (p + when plan (size (T.superframe ++ T.plan)) (size T.superframe)) T.lastByte)) (cut s p T.superframe)
 
 unfoldable pub flatCoreAt : List ℕ → FlatRecord
 flatCoreAt s =

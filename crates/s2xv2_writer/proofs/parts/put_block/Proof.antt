@@ -26,7 +26,7 @@ abbrev plan : FlatSuperframe → List Part
 plan f = planParts (isOne (f .«beam_hopping_time_plan_selector»)) (O32.Some (f .«beamhopping_time_plan_id»))
 
 abbrev last : FlatSuperframe → List Part
-last f = T.superframeEnd ⦂ superframeEndValues (blockIn f) ∷ []
+last f = T.lastByte ⦂ superframeEndValues (blockIn f) ∷ []
 
 block-bytes-requires : tie.Need-block-bytes-requires
 block-bytes-requires c κs = search needs

@@ -1,9 +1,9 @@
--- `s2xv2_measure::checks::due` meets its contract: each arm knows its number, and the last that it is none of the six.
+-- `s2xv2_measure::checks::parts_asked` meets its contract: each arm knows its number, and the last that it is none of the six.
 -- Assumes nothing.
 use native.Mathlib.Omega.{arith}
 use Rattle.s2xv2_measure.proofs.Due.{due-of, due-unnamed}
-use Rattle.s2xv2_measure.proofs.checks.due.Statement.{statement}
-use Rattle.s2xv2_measure.proofs.checks.due.Tie as tie
+use Rattle.s2xv2_measure.proofs.checks.parts_asked.Statement.{statement}
+use Rattle.s2xv2_measure.proofs.checks.parts_asked.Tie as tie
 
 returns : tie.Need-returns
 returns c = rw (c .match .keys1) (due-of 0)
@@ -28,5 +28,5 @@ returns-7 c =
     let r = c .match .rest in
     due-unnamed (c .before .args .code) (omega (arith, r .0 .0 .0 .0 .0 .1, r .0 .0 .0 .0 .1, r .0 .0 .0 .1, r .0 .0 .1, r .0 .1, r .1))
 
-pub due-spec : {M : Type 1} → statement M
-due-spec = tie.close (tie.spec returns returns-2 returns-3 returns-4 returns-5 returns-6 returns-7)
+pub parts-asked-spec : {M : Type 1} → statement M
+parts-asked-spec = tie.close (tie.spec returns returns-2 returns-3 returns-4 returns-5 returns-6 returns-7)
