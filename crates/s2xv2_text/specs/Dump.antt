@@ -1,6 +1,9 @@
--- THE TEXT of a body: `dumpOf`. `bodyOf` is that of a body that is accepted, of its length, its record and its tail's length.
--- `dumpTold` and `dumpedInto` are what the call answers and what it leaves in the buffer, which needs `room`.
--- Assumes nothing.
+-- The text of a body, and what the call answers that puts it into a buffer. Assumes nothing.
+-- `bodyOf`      the text of an accepted body, of its length, its record and its tail's length
+-- `dumpOf`      the text of any body
+-- `room`        how many bytes the buffer needs
+-- `dumpTold`    what the call answers, in numbers
+-- `dumpedInto`  the buffer afterwards
 use Prim.Native.Nat.{ℕ}
 use mathlib.Core.List.{List, [], _∷_, _++_}
 use lib.ListN.{length, drop}
