@@ -1,4 +1,5 @@
--- The numbers of an answer lose nothing: `refusalOf` and `answerOf` give it back. So two answers with the same numbers are equal. None of a refusal's is 0 at its start.
+-- The numbers of an answer lose nothing: `refusalOf` and `answerOf` give it back. So two answers with the same numbers are equal.
+-- A refusal's numbers do not start with 0, and there are four at most.
 -- Assumes nothing.
 use mathlib.Core.Path.{_≡_, refl, sym, ap, _∙_}
 use mathlib.Core.List.{List}

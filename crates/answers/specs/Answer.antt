@@ -1,5 +1,5 @@
--- The numbers that a caller may see (document 01), the answer's own number first and then what it tells. No other definition gives a refusal's number, but
--- `stepTold` of `job` for 8. Assumes nothing.
+-- The numbers that a caller may see (document 01), the answer's own first, then what it tells. No other definition
+-- gives a refusal's number, but `stepTold` of `job` for 8. Assumes nothing.
 -- `numbers`    of a refusal
 -- `told`       of an answer
 -- `numberOf`   the first of them

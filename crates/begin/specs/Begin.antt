@@ -1,6 +1,18 @@
--- What begin answers: `beginTold` in numbers, made of `fitTold` and `stageTold`, and `beginOf`, a `Begins`, with the job, which is `newJob` or, if it is refused, `noJob`
--- (`answered`); `begunSeen` is an answer so. `sizeOf` and `descriptorOf` are the descriptor of a record and its tail, `padded` as it is staged in
--- `stagedSize` bytes; `Sized` is what the private functions require of sizes. Assumes nothing.
+-- What begin answers, and the job that it gives. Assumes nothing.
+-- `stagedSize`    how many bytes a job has for its descriptor
+-- `padded`        a descriptor as it is staged in these bytes
+-- `newJob`        the job that stores a descriptor, with no store made
+-- `noJob`         what stands where begin is refused
+-- `sizeOf`        how many bytes the descriptor of a record and its tail takes
+-- `descriptorOf`  the bytes of that descriptor
+-- `Sized`         what the private functions require of the sizes, and of the record
+-- `stageTold`     what is told once the descriptor is known to fit
+-- `fitTold`       what is told once its length is known
+-- `beginTold`     what is told of any slot, record and tail
+-- `Begins`        an answer in numbers, with the job
+-- `begunSeen`     that of what the call returns
+-- `answered`      that of what is told, with the job or `noJob`
+-- `beginOf`       what begin answers for a slot, a record and its tail
 use Prim.Native.Nat.{ℕ, _+_, _-_, _≤_}
 use mathlib.Core.Path.{_≡_}
 use mathlib.Core.List.{List, [], _∷_, _++_}

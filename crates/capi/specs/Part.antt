@@ -1,5 +1,9 @@
--- A tail as a part of what was lent: `partIn` gives the bytes of a part. `tailPart` is the tail of a body, `toldPart` the part that a slot's answer tells, `slotPart` the tail of
--- the record in a slot; all are the part of no bytes at the start, `noPart`, where there is no record. Assumes nothing.
+-- A tail as a part of what was lent. Assumes nothing.
+-- `partIn`    the bytes of a part
+-- `noPart`    the part of no bytes at the start: what each of the next three is where there is no record
+-- `tailPart`  the tail of a body
+-- `toldPart`  the part that a slot's answer tells
+-- `slotPart`  the tail of the record in a slot
 use Prim.Native.Nat.{ℕ, _-_}
 use mathlib.Core.List.{List}
 use lib.ListN.{length, take, drop, getD}

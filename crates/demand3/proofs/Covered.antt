@@ -1,6 +1,7 @@
 -- A list of stores `covered n d middle` is safe after every number of them: while the middle is stored, the two bytes in front of it are a cover.
 -- Assumes nothing.
--- Nothing here knows what good form is: a caller brings a predicate `Reads t x`, "t is in good form and reads as x", and a fact of it for each phase of the run (`Phases`).
+-- Nothing here knows what good form is: a caller brings a predicate `Reads t x`, "t is in good form and reads as x", and a fact of it for each
+-- phase of the run (`Phases`).
 use mathlib.Core.Path.{_≡_, refl, sym, ap, _∙_}
 use mathlib.Core.List.{List, [], _∷_}
 use mathlib.Core.Logic.{⊎-elim}

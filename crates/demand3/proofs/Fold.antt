@@ -1,4 +1,5 @@
--- DEMAND 3 after k stores: the job's stores lay a cover over the slot, the laws of the form give the five facts that `safe` asks, and the body reads as it was written.
+-- DEMAND 3 after k stores: the job's stores lay a cover over the slot, the laws of the form give the five facts that `safe` asks, and the
+-- body reads as it was written.
 -- Assumes nothing.
 -- `middle-safe` and `middle-ends` are the same for any middle that leaves the right bytes.
 use mathlib.Core.Path.{_≡_, refl, ap, _∙_}

@@ -1,5 +1,5 @@
--- Answer 8 refuses no job that begin and steps could give, and no other is fair: the job of the default record with a tail of zeros on an empty slot has the sizes of any fair job, and one
--- step makes its stores.
+-- Answer 8 refuses no job that begin and steps could give, and no other is fair: the job of the default record with a tail of zeros on an
+-- empty slot has the sizes of any fair job, and one step makes its stores.
 -- Assumes nothing.
 use mathlib.Core.Path.{_≡_, refl, sym, ap, _∙_}
 use mathlib.Core.List.{List, [], _∷_}

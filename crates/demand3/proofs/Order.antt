@@ -1,6 +1,8 @@
--- Demand 3 refuses the stores of a job in another order. The slot is one of 25 bytes that holds a body of 18 zeros, with 4 bytes of stuffing behind it, and the job is to
--- store the same record: with its first two stores exchanged the slot has, after one store, the stuffing as a tail, and so it has before the last store with the last two exchanged.
+-- Demand 3 refuses the stores of a job in another order.
 -- Assumes nothing.
+-- The slot is one of 25 bytes that holds a body of 18 zeros, with 4 bytes of stuffing behind it, and the job is to store the same record:
+-- with its first two stores exchanged the slot has, after one store, the stuffing as a tail, and so it has before the last store with the
+-- last two exchanged.
 use mathlib.Core.Path.{_≡_, refl, sym, ap, _∙_}
 use mathlib.Core.List.{List, [], _∷_, _++_}
 use Prim.Native.Nat.{ℕ}

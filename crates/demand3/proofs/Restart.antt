@@ -1,5 +1,5 @@
--- A job begun where any number of others were stopped ends as on a slot never interrupted: these leave the slot in good form, begin asks of a slot only its form and
--- its size, and all stores of a job leave the same bytes whatever stood there.
+-- A job begun where any number of others were stopped ends as on a slot never interrupted: these leave the slot in good form, begin asks
+-- of a slot only its form and its size, and all stores of a job leave the same bytes whatever stood there.
 -- Assumes nothing.
 use mathlib.Core.Path.{_≡_, refl, sym, ap, ap₂, _∙_}
 use mathlib.Core.List.{List, [], _∷_}

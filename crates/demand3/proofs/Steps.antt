@@ -1,4 +1,5 @@
--- Demand 3 after steps with any allowances: each step goes from k stores to as many more as it may make, so the slot is the one after as many stores as the job says.
+-- Demand 3 after steps with any allowances: each step goes from k stores to as many more as it may make, so the slot is the one after as
+-- many stores as the job says.
 -- Assumes nothing.
 use mathlib.Core.Path.{_≡_, refl, ap, _∙_}
 use mathlib.Core.List.{List, [], _∷_}

@@ -1,5 +1,9 @@
--- What demand 3 claims. `Ready` says that a slot is in good form and a record is one that the writer accepts and that fits; `jobStores` are the stores of its
--- job; `readsAfter` says what a slot reads as after k of m stores, `due` that for a job, and `holds` what it shows of a record and its tail. Assumes nothing.
+-- What demand 3 claims. Assumes nothing.
+-- `Ready`       a slot is in good form, and a record is one that the writer accepts and that fits
+-- `jobStores`   the stores of the job that is begun there
+-- `holds`       what a slot shows that holds a record and its tail
+-- `readsAfter`  what a slot reads as after k of m stores
+-- `due`         that for the stores of a job
 use Prim.Native.Nat.{ℕ, _+_}
 use mathlib.Core.Path.{_≡_}
 use mathlib.Core.Bool.{true}

@@ -1,7 +1,8 @@
 -- The laws of good form that all above it goes by: each holds by the tests of the form at the bytes in question.
 -- Assumes nothing.
--- `form-body` says what a slot in form has behind a tag of ours; `cover-form` that a stuffing descriptor over the whole slot puts it in form whatever stands behind its two bytes;
--- `retag-form` that it stays in form when the first tag becomes stuffing's; `holding-form` that a descriptor of ours with stuffing behind it is in form.
+-- `form-body` says what a slot in form has behind a tag of ours; `cover-form` that a stuffing descriptor over the whole slot puts it in form
+-- whatever stands behind its two bytes; `retag-form` that it stays in form when the first tag becomes stuffing's; `holding-form` that a
+-- descriptor of ours with stuffing behind it is in form.
 use mathlib.Core.Path.{_≡_, refl, sym, ap, _∙_}
 use mathlib.Core.List.{List}
 use mathlib.Core.Logic.{⊎-elim}

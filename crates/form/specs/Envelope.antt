@@ -1,5 +1,11 @@
--- Descriptors as bytes: `tag` and `extension` stand in front of a body (`envelope`, of `envelopeSize` bytes more), `stuffingTag` and `filler`
--- make the stuffing descriptor of EN 300 468 (`stuffing`); `holding` is a slot with a body and stuffing behind it. Assumes nothing.
+-- Descriptors as bytes: that of a body, and the stuffing descriptor of EN 300 468. Assumes nothing.
+-- `tag`, `extension`  descriptor_tag and descriptor_tag_extension, in front of a body
+-- `stuffingTag`       the tag of a stuffing descriptor
+-- `filler`            the byte that a stuffing descriptor is filled with
+-- `envelopeSize`      how many bytes a descriptor has more than its body
+-- `envelope`          the descriptor of a body
+-- `stuffing`          so many bytes that are one stuffing descriptor
+-- `holding`           a slot with a body in its envelope and stuffing behind it
 use Prim.Native.Nat.{ℕ, zero, suc, _-_}
 use mathlib.Core.List.{List, [], _∷_, _++_}
 use lib.ListN.{length, replicate}

@@ -1,5 +1,14 @@
--- When a slot is in good form (document 01, 'Slot and job'): `goodForm`, by its `formTests`: `goodSize`, `goodFirst` (with `oursTests` for a descriptor of ours) and `goodRest`
--- (with `stuffedTests` for stuffing behind it). `byteAt` is a byte of a slot, `bodyIn` the body in its first descriptor; `all` says that every test of a list holds. Assumes nothing.
+-- When a slot is in good form (document 01, 'Slot and job'). Assumes nothing.
+-- `byteAt`        a byte of a slot
+-- `all`           every test of a list holds
+-- `goodSize`      a slot may have so many bytes
+-- `oursTests`     the tests of a first descriptor that is one of ours
+-- `goodFirst`     the first descriptor is one of ours or stuffing
+-- `stuffedTests`  the tests of stuffing behind a descriptor
+-- `goodRest`      a descriptor ends the slot, or stuffing behind it does
+-- `formTests`     the tests of good form: the size, the first descriptor, and the rest
+-- `goodForm`      a slot is in good form
+-- `bodyIn`        the body in its first descriptor
 use Prim.Native.Nat.{ℕ, _+_, _-_}
 use mathlib.Core.List.{List, [], _∷_}
 use mathlib.Core.Bool.{Bool, true, _&&_, _||_}

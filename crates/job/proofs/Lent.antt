@@ -1,5 +1,5 @@
--- What a function is given that is lent a job and a slot, with an allowance: `Lent` holds places, names and values of both; `slotRef` and `slotVal` are the slot's reference
--- and what the machine has for it, `lentArgs` and `lentVals` the same of all three.
+-- What a function is given that is lent a job and a slot, with an allowance: `Lent` holds places, names and values of both; `slotRef` and
+-- `slotVal` are the slot's reference and what the machine has for it, `lentArgs` and `lentVals` the same of all three.
 -- Assumes nothing.
 use mathlib.Core.List.{List, [], _∷_}
 use Prim.Native.Nat.{ℕ}

@@ -1,6 +1,19 @@
--- A job: its `descriptor`, the `firstBytes` of what is staged, and the stores that it has `todo`; `nextStore` (`none` behind the last), `nextStores`, and how many are `left`. `jobOf` makes
--- it of its parts, `withMade` and `advanced` are it later. `fair`, by `fairTests`, says that begin and steps could give its numbers; `Fair` has the same as facts; `fitsIn`, by `fitTests`,
--- that a descriptor fits a slot. Assumes nothing.
+-- A job: what it stores, how it goes on, and which jobs begin and steps could give. Assumes nothing.
+-- `firstBytes`  the first bytes of a list
+-- `descriptor`  the descriptor of a job: the first bytes of what is staged
+-- `todo`        all the stores of a job
+-- `left`        how many of them are left to make
+-- `none`        what stands for a store behind the last
+-- `nextStore`   the next store
+-- `nextStores`  the next so many stores
+-- `jobOf`       a job made of its parts
+-- `withMade`    a job with so many stores made
+-- `advanced`    a job with so many more stores made
+-- `fitTests`    the tests of a descriptor's size for a slot
+-- `fitsIn`      a descriptor fits a slot
+-- `fairTests`   the tests of a job's numbers for a slot
+-- `fair`        begin and steps could give a job its numbers
+-- `Fair`        the same as facts
 use Prim.Native.Nat.{ℕ, zero, suc, _+_, _-_, _≤_}
 use mathlib.Core.Path.{_≡_}
 use mathlib.Core.List.{List, [], _∷_}

@@ -1,5 +1,13 @@
--- What a step answers and leaves: `stepOf`, a `Steps`, which `accepts` or `refuses`, and `slotAfter`; `stepCount` is the stores that it makes. `stepTold` is an answer in numbers, `stepSeen` a
--- whole answer so, and `movedSeen` the answer of a step that has the job in parts. Assumes nothing.
+-- What a step answers, and what it leaves in the slot. Assumes nothing.
+-- `stepTold`   an answer in numbers
+-- `Steps`      a whole answer
+-- `stepSeen`   that of what the call returns
+-- `movedSeen`  that of what a step returns that has the job in parts
+-- `stepCount`  how many stores a step makes
+-- `accepts`    what a step answers that is accepted and makes so many stores
+-- `refuses`    what a step answers that is refused
+-- `stepOf`     what a step answers, lent a slot of so many bytes
+-- `slotAfter`  the slot afterwards
 use Prim.Native.Nat.{ℕ, min}
 use mathlib.Core.List.{List, [], _∷_}
 use mathlib.Core.Bool.{Bool, false}

@@ -1,5 +1,7 @@
--- The stores of a job (document 01, 'Slot and job'): `behind` is what the finished slot has from its third byte on, `covered` lays stuffing over a
--- slot while a middle is stored, and `stores` is the list for a descriptor. Assumes nothing.
+-- The stores of a job (document 01, 'Slot and job'). Assumes nothing.
+-- `behind`   what the finished slot has from its third byte on
+-- `covered`  the stores of a middle, between those that lay stuffing over the slot and those that take it off
+-- `stores`   the stores for a descriptor
 use Prim.Native.Nat.{ℕ, _-_}
 use mathlib.Core.List.{List, [], _∷_, _++_}
 use lib.ListN.{length, drop}

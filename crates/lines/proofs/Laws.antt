@@ -1,5 +1,6 @@
 -- Laws of `write`: text after text is one text (`write-append`), so that calls one after the other write what is joined (`then2`,
--- `then3`, `then4`); nothing is written by a call that is not made (`nothing`); `words-more` numbers are those before and one more. Assumes nothing.
+-- `then3`, `then4`); nothing is written by a call that is not made (`nothing`); `words-more` numbers are those before and one more.
+-- Assumes nothing.
 use Prim.Native.Nat.{ℕ}
 use mathlib.Core.Path.{_≡_, refl, sym, _∙_, ap, subst}
 use mathlib.Core.List.{List, [], _∷_, _++_, append-nil, append-assoc}

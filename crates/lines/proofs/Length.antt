@@ -1,5 +1,6 @@
 -- How long a text can get: `Most` says it of a text, and the laws give it for numbers, lines and what is joined. What a buffer holds that has
--- room for a text (`fits`). Assumes nothing.
+-- room for a text (`fits`).
+-- Assumes nothing.
 use Prim.Native.Nat.{ℕ, _+_, _*_, _/_, _%_, _≤_, _<_}
 use mathlib.Core.Path.{_≡_, _∙_}
 use mathlib.Core.Bool.{Bool, true, false}

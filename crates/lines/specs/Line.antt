@@ -1,6 +1,11 @@
--- The lines of a dump: `lineOf` is a name, a space, a number and a newline; `refusedOf` is the one line of a refused body. `codes` is a
--- quoted text as the codes of its characters, `space` and `newline` are two such texts; `wordOf` is a number with a space before it,
--- `words` some of them, and `wordsOf` these as one text. Assumes nothing.
+-- The lines of a dump. Assumes nothing.
+-- `codes`             a quoted text as the codes of its characters
+-- `space`, `newline`  two such texts
+-- `lineOf`            a name, a space, a number and a newline
+-- `wordOf`            a number with a space before it
+-- `words`             that of each number of a list
+-- `wordsOf`           these as one text
+-- `refusedOf`         the one line of a refused body
 use Prim.Native.Nat.{ℕ}
 use Prim.Native.Char.{code}
 use Prim.Native.String.{String}

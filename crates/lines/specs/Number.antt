@@ -1,5 +1,7 @@
--- A number in decimal digits, in ASCII: `decimalOf`, by `digitOf` for the digit of a power of ten and `threeOf` for those of three powers.
--- The numbers of a dump are below 2 ^ 32, so ten digits hold them. Assumes nothing.
+-- A number in decimal digits, in ASCII. The numbers of a dump are below 2 ^ 32: ten digits hold them. Assumes nothing.
+-- `digitOf`    the digit of a power of ten, none for a number below it
+-- `threeOf`    the digits of three powers
+-- `decimalOf`  all digits of a number
 use Prim.Native.Nat.{ℕ, _+_, _/_, _%_}
 use mathlib.Core.List.{List, [], _∷_}
 use lib.Dec.{leb}

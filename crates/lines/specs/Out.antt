@@ -1,6 +1,9 @@
--- Text that goes into a lent buffer from a place on, as far as the buffer reaches: `Out` is a buffer and the place, made by `_from_`;
--- `write` puts text there, `putOne` one byte of it, and `Wrote` says so of a buffer and place before and after. `joined` is one text
--- after the other. Assumes nothing.
+-- Text that goes into a lent buffer from a place on, as far as the buffer reaches. Assumes nothing.
+-- `Out`, `_from_`  a buffer and the place
+-- `putOne`         both after one byte is put there
+-- `write`          both after a text is put there
+-- `Wrote`          a text was put there, said of a buffer and place before and after
+-- `joined`         one text after the other
 use Prim.Native.Nat.{ℕ, _+_}
 use mathlib.Core.Path.{_≡_}
 use mathlib.Core.List.{List, [], _∷_, _++_}

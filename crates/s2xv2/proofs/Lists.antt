@@ -1,5 +1,4 @@
--- Laws of lists A and B: a list whose first place is 0 has no test that holds; a record that A passes is what its mode and flags say, and
--- one that B passes too fits the wire.
+-- Laws of lists A and B: a record that A passes is what its mode and flags say, and one that B passes too fits the wire.
 -- Assumes nothing.
 use mathlib.Core.Path.{_≡_, refl, sym, ap, _∙_}
 use mathlib.Core.List.{List, [], _∷_, _++_}

@@ -1,5 +1,8 @@
--- What the wire carries of a record: `carried` has at 0 each field that is not on the wire; `carriedId` is an id so, `carriedBlock` a
--- superframe block, and `carriedSuperframe` one that may be absent. Assumes nothing.
+-- What the wire carries of a record: each field that is not on the wire is 0. Assumes nothing.
+-- `carriedBlock`       that of a superframe block
+-- `carriedSuperframe`  that of a block that may be absent
+-- `carriedId`          that of an id
+-- `carried`            that of a record
 use Prim.Native.Nat.{ℕ}
 use mathlib.Core.List.{List, [], _∷_}
 use lib.ListN.{getD}

@@ -1,4 +1,6 @@
--- The `Default`s of the crate: `defaultSuperframe` and `defaultRecord`. What a refused read shows is the second. Assumes nothing.
+-- The `Default`s of the crate. Assumes nothing.
+-- `defaultSuperframe`  that of a superframe block
+-- `defaultRecord`      that of a record, which a refused read shows
 use mathlib.Core.List.{[], _∷_}
 use mathlib.Core.Bool.{false}
 use Rattle.s2xv2.specs.declared.record.S2Xv2SatelliteDeliverySystem.{S2Xv2SatelliteDeliverySystem}

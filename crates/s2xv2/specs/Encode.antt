@@ -1,9 +1,26 @@
--- What a record is written as: `partsOf` it, each with the widths of Table 144b and the values that stand there. From this one list come
--- the bytes (`encode`) and the length (`encodedLength`). Assumes nothing.
--- The values of a part: `coreValues`, with `topBit` for byte 6; `superframeValues`, with `nibbleOf` for SFFI's place; `superframeEndValues`.
--- The parts of some values: `byteParts` of one byte, `scramblingParts`, `bondParts` with `idParts` for the ids and `lessOne` for their count,
--- `planParts`, `blockParts` of a superframe block, whose size is `blockLength`, and `superframeParts` of one that may be absent.
--- The same of a record: `streamOf`, `scramblingOf`, `timesliceOf`, `bondOf`, `superframeOf`.
+-- What a record is written as: a list of parts, each with the widths of EN 300 468, Table 144b, and the values that
+-- stand there. From this one list come the bytes and the length. Assumes nothing.
+-- `topBit`               the top bit of byte 6
+-- `coreValues`           the values of the core
+-- `byteParts`            the part of one byte that may be absent
+-- `scramblingParts`      the part of the scrambling index
+-- `idParts`              the parts of the ids
+-- `bondParts`            the parts of the bond header and the ids
+-- `nibbleOf`             what stands in SFFI's place
+-- `superframeValues`     the values of a superframe block before the plan id
+-- `planParts`            the part of the plan id
+-- `superframeEndValues`  the values of a superframe block's last byte
+-- `blockParts`           the parts of a superframe block
+-- `blockLength`          how many bytes they take
+-- `superframeParts`      the parts of a block that may be absent
+-- `streamOf`             the stream id of a record, as parts
+-- `scramblingOf`         its scrambling index
+-- `timesliceOf`          its timeslice
+-- `bondOf`               its bonds
+-- `superframeOf`         its superframe block
+-- `partsOf`              all its parts
+-- `encode`               the bytes of a record with a tail
+-- `encodedLength`        how many bytes these are
 use Prim.Native.Nat.{ℕ, zero, suc, _+_}
 use mathlib.Core.List.{List, [], _∷_, _++_}
 use mathlib.Core.Bool.{Bool}

@@ -1,6 +1,8 @@
--- What the types of a record's fields say of it: `Held`, for each field whose type is as wide as its place on the wire; `HeldBlock` is
--- that of a superframe block, `HeldSuperframe` of one that may be absent. Every record that a program can hold is held: `s2xv2_typed::is_held` gives
--- it for any record. Assumes nothing.
+-- What the types of a record's fields say of it, for each field whose type is as wide as its place on the wire. Every
+-- record that a program can hold is held: `s2xv2_typed::is_held` gives it for any record. Assumes nothing.
+-- `HeldBlock`       that of a superframe block
+-- `HeldSuperframe`  that of a block that may be absent
+-- `Held`            that of a record
 use Prim.Native.Nat.{_^_, _<_}
 use lib.ListN.{getD}
 use Rattle.answers.specs.Options.{orZero8, orZero32}

@@ -1,4 +1,5 @@
--- What the length call answers: `lengthTold`. Assumes nothing.
+-- What the length call answers. Assumes nothing.
+-- `lengthTold`  its answer in numbers, for a record and a tail
 use Prim.Native.Nat.{ℕ}
 use mathlib.Core.List.{List}
 use lib.Dec.{ltb}

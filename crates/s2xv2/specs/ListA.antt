@@ -1,7 +1,10 @@
--- List A of document 01: a record that contradicts itself. `listA` has its tests in their order (`partsA`, then `superframeA`), `firstOf`
--- says which is the first that holds (`firstFrom`, counted from another number), and `inconsistency` is that place, or 0 for a consistent
--- record. `misnamed` is the test of a mode, `inSuperframe` makes a test of a superframe block one of a block that may be absent.
--- Assumes nothing.
+-- List A of document 01: a record that contradicts itself. Assumes nothing.
+-- `misnamed`       the test of a mode
+-- `inSuperframe`   a test of a superframe block, made one of a block that may be absent
+-- `partsA`         tests 1 to 7, of mode, flags and parts
+-- `superframeA`    tests 8 and 9, of a superframe block that may be absent
+-- `listA`          all tests in their order
+-- `inconsistency`  the place of the first that holds, or 0 for a consistent record
 use Prim.Native.Nat.{ℕ, suc}
 use mathlib.Core.List.{List, [], _∷_, _++_}
 use mathlib.Core.Bool.{Bool, false}

@@ -1,6 +1,10 @@
--- List B of document 01: a value that the wire cannot carry. `listB` has its tests in their order (`coreB`, `scramblingB`, `bondB`,
--- `superframeB`), judging only what is on the wire; `unwritable` is the place of the first that holds, or 0. `wide w v` says that v takes
--- more than w bits. Assumes nothing.
+-- List B of document 01: a value that the wire cannot carry. Only what is on the wire is judged. Assumes nothing.
+-- `coreB`        tests 1 to 9, of the core
+-- `scramblingB`  tests 10 to 12, of the scrambling index
+-- `bondB`        tests 13 and 14, of the bonds
+-- `superframeB`  tests 15 to 22, of a superframe block that may be absent
+-- `listB`        all tests in their order
+-- `unwritable`   the place of the first that holds, or 0 if none does
 use Prim.Native.Nat.{ℕ, _^_}
 use mathlib.Core.List.{List, [], _∷_, _++_}
 use mathlib.Core.Bool.{Bool}

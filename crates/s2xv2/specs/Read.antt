@@ -1,15 +1,43 @@
--- What a body reads as. `presentIn` says which parts its core asks for; `streamEnd` to `superframeEnd` say where each part ends, and
--- `bodySize` is the last; `needs` lists the parts with the ends that the body has to reach; `recordIn` is the
--- record that it holds, `readTold` the answer in numbers, `readOf` both as the reader shows them, and `tailOf` the tail.
--- A part that is not there ends where the part before it ends, so that it is never the first that is missing. Assumes nothing.
--- Which parts: `Present`, `presentFrom` the values of the core; `hasSecond` asks a bond header for a second id, `hasPlan` a block for a plan id.
--- Where: `only` counts what is there; `streamEnd`, `scramblingEnd`, `timesliceEnd`; `headerEnd`, `firstIdEnd` and `bondEnd` by `bondSize`;
--- `blockEnd`, `planEnd` by `planSize`, as far as a plan id goes, and `superframeEnd` by `superframeSize`. A `Need`, made by `_to_`, is a
--- place with its end.
--- The record: `streamIdAt` is the stream id, `timesliceAt` the timeslice, `reserved6At`, `indexAt`, `reserved7At`, `firstIdAt` and `secondIdAt` are
--- the other fields, `countIf` the bonds' count; `superframeFrom` its values is a block, `planAt` its plan id, `superframeAt` the block at
--- a byte; `recordFrom` all of these is the record, `recordAt` the one of a body whose parts start as told, `recordOf` the one whose parts stand one behind the other.
--- The answer: `numberOf` it is its first number, `shortTold` is 1 or what else is told, `Reading` is an answer with the record.
+-- What a body reads as: its parts, its record, and the answer. A part that is not there ends where the part before it
+-- ends, so that it is never the first that is missing. Assumes nothing.
+-- `Present`         which parts are there
+-- `presentFrom`     those that the values of a core ask for
+-- `presentIn`       those that the core of a body asks for
+-- `streamEnd`       where the stream id ends
+-- `scramblingEnd`   where the scrambling index ends
+-- `timesliceEnd`    where the timeslice ends
+-- `headerEnd`       where the bond header ends
+-- `firstIdEnd`      where the first id ends
+-- `hasSecond`       a bond header asks for a second id
+-- `bondSize`        how many bytes the bonds take
+-- `bondEnd`         where the bonds end
+-- `blockEnd`        where the superframe block would end without a plan id
+-- `hasPlan`         a superframe block asks for a plan id
+-- `planSize`        how far the plan id goes from the start of the block
+-- `planEnd`         where the plan id ends
+-- `superframeSize`  how many bytes the superframe block takes
+-- `superframeEnd`   where the superframe block ends
+-- `bodySize`        where the last part ends
+-- `needs`           the parts with the ends that the body has to reach
+-- `superframeFrom`  a superframe block made of its values
+-- `planAt`          the plan id of a block at a byte
+-- `superframeAt`    the superframe block at a byte
+-- `streamIdAt`      the stream id at a byte
+-- `timesliceAt`     the timeslice at a byte
+-- `reserved6At`     what is reserved before the scrambling index
+-- `indexAt`         the scrambling index
+-- `reserved7At`     what is reserved in the bond header
+-- `countIf`         the bonds' count
+-- `firstIdAt`       the first id
+-- `secondIdAt`      the second id
+-- `recordFrom`      a record made of all of these
+-- `recordAt`        the record of a body whose parts start as told
+-- `recordOf`        the record of a body whose parts stand one behind the other
+-- `recordIn`        the record that a body holds
+-- `readTold`        the answer in numbers
+-- `Reading`         an answer in numbers, with the record shown
+-- `readOf`          that of the reader for a body
+-- `tailOf`          the tail of a body
 use Prim.Native.Nat.{ℕ, _+_}
 use mathlib.Core.List.{List, [], _∷_, _++_}
 use mathlib.Core.Bool.{Bool}

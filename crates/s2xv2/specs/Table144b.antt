@@ -1,6 +1,14 @@
--- EN 300 468, Table 144b: the widths of the fields of each part, in wire order. Reading cuts along these lists and writing packs along
--- them; nothing else says where a field stands. `core`, `streamId`, `scrambling`, `timeslice`, `bondHeader`, `bondId`, `superframe`,
--- `plan`, `lastByte`. Assumes nothing.
+-- EN 300 468, Table 144b: the widths of the fields of each part, in wire order. Reading cuts along these lists and
+-- writing packs along them; nothing else says where a field stands. Assumes nothing.
+-- `core`           what every body starts with
+-- `streamId`       the stream id
+-- `scrambling`     the scrambling index, and what is reserved before it
+-- `timeslice`      the timeslice
+-- `bondHeader`     the count of the bonds less one, and what is reserved before it
+-- `bondId`         the id of a bond
+-- `superframe`     the superframe block before the plan id
+-- `plan`           the plan id
+-- `lastByte`       the last byte of the superframe block
 use Prim.Native.Nat.{ℕ}
 use mathlib.Core.List.{List, [], _∷_}
 

@@ -1,5 +1,9 @@
--- EN 300 468, Table 144c: `modeOf` a code, `codeOf` a mode; and which modes have the scrambling selector, a timeslice and a superframe
--- block (`hasSelector`, `hasTimeslice`, `hasSuperframe`), as Table 144b asks. Assumes nothing.
+-- EN 300 468, Table 144c: the modes, their codes, and what Table 144b asks for in each. Assumes nothing.
+-- `modeOf`         the mode of a code
+-- `codeOf`         the code of a mode
+-- `hasSelector`    a mode has the scrambling selector
+-- `hasTimeslice`   a mode has a timeslice
+-- `hasSuperframe`  a mode has a superframe block
 use Prim.Native.Nat.{ℕ}
 use mathlib.Core.Bool.{Bool, true, false}
 use lib.Dec.{eqb}

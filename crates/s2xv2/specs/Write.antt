@@ -1,5 +1,6 @@
--- What the writer answers and leaves: `writeTold` for a record, a tail and a buffer of so many bytes; `written` is the buffer afterwards.
--- Assumes nothing.
+-- What the writer answers, and what it leaves in the buffer. Assumes nothing.
+-- `writeTold`  its answer in numbers, for a record, a tail and a buffer of so many bytes
+-- `written`    the buffer afterwards
 use Prim.Native.Nat.{ℕ}
 use mathlib.Core.List.{List, _++_}
 use lib.ListN.{length, drop}

@@ -1,5 +1,6 @@
 -- How long the lines of a record can get: `core-most` 424 bytes with the line of the body's length, `parts-most` 256, `superframe-most` 362.
--- The rest are their parts. Assumes nothing.
+-- The rest are their parts.
+-- Assumes nothing.
 use Prim.Native.Nat.{ℕ, _+_}
 use mathlib.Core.List.{List}
 use native.Mathlib.Omega.{arith}

@@ -1,7 +1,16 @@
--- A record as lines, each field that is on the wire under the name that the Rust has for it, in wire order: `coreText`, `partsText` and
--- `superframeText`. What stands behind a field that is absent has no line. Assumes nothing.
--- `coreLines`: the core, with `topOf` for the top bit of byte 6. The parts: `line8` and `line32` of a number that may be absent,
--- `scramblingOf` the index, `bondsOf` the ids, with `secondOf` for the second. `blockLines`: a superframe block, with `nibbleLine` for SFFI's place.
+-- A record as lines, each field that is on the wire under the name that the Rust has for it, in wire order. What stands
+-- behind a field that is absent has no line. Assumes nothing.
+-- `topOf`            the line of the top bit of byte 6
+-- `coreLines`        the lines of the core
+-- `coreText`         the text of the core, with the line of the body's length before it
+-- `line8`, `line32`  the line of a number that may be absent
+-- `scramblingOf`     the lines of the scrambling index and of what is reserved before it
+-- `secondOf`         the line of the second id
+-- `bondsOf`          the lines of the bonds
+-- `partsText`        the text of the parts between the core and the superframe block
+-- `nibbleLine`       the line of SFFI's place
+-- `blockLines`       the lines of a superframe block
+-- `superframeText`   the text of a block that may be absent
 use Prim.Native.Nat.{ℕ}
 use mathlib.Core.List.{List, [], _∷_}
 use lib.ListN.{getD}

@@ -1,4 +1,5 @@
--- `coreOf` a record has its core, and of all else what `defaultRecord` has. Assumes nothing.
+-- The core of a record. Assumes nothing.
+-- `coreOf`  a record that has the core of another, and of all else what `defaultRecord` has
 use Rattle.s2xv2.specs.Default.{defaultRecord}
 use Rattle.s2xv2.specs.declared.record.S2Xv2SatelliteDeliverySystem.{S2Xv2SatelliteDeliverySystem}
 

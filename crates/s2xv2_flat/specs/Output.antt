@@ -1,4 +1,8 @@
--- What crosses to C: `answerOut` of an answer's numbers, `recordOut` of a record, `superframeOut` of its block, `isReserved` of its mode. Assumes nothing.
+-- What crosses to C. Assumes nothing.
+-- `answerOut`      of an answer's numbers
+-- `isReserved`     of a mode, 1 for `Reserved` and 0 for any other
+-- `superframeOut`  of a superframe block that may be absent
+-- `recordOut`      of a record
 use Prim.Native.Nat.{ℕ}
 use mathlib.Core.List.{List}
 use lib.ListN.{getD}

@@ -1,5 +1,5 @@
--- A record that crosses out and in again is the same record (`back`), and one that crosses out is one that a record could be (`out-valid`). The laws before them say the same of
--- each field, and what is seen of a value that a flag says is there.
+-- A record that crosses out and in again is the same record (`back`), and one that crosses out is one that a record could be (`out-valid`).
+-- The laws before them say the same of each field, and what is seen of a value that a flag says is there.
 -- Assumes nothing.
 use mathlib.Core.Path.{_≡_, refl}
 use mathlib.Core.Bool.{Bool, true, false}

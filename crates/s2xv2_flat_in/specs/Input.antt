@@ -1,7 +1,15 @@
--- What comes from C: `meant` is the record that is meant, `blockIn` its block, `modeIn` its mode. `valid` says that there is one: each of
--- its flags is 0 or 1 (`flags`, of `recordFlags` and of `blockFlags`), and a mode without `Reserved` is one that has a name (`named`). What
--- stands behind a flag that says absent is not looked at, whatever it holds: a scrambling selector and the flags of a block count only where
--- they are there (`allowed`). `foreign` is what is answered where there is no record. Assumes nothing.
+-- What comes from C. What stands behind a flag that says absent is not looked at, whatever it holds: a scrambling
+-- selector and the flags of a block count only where they are there. Assumes nothing.
+-- `modeIn`       the mode that is meant
+-- `blockIn`      the superframe block that is meant
+-- `meant`        the record that is meant
+-- `recordFlags`  the flags of a record that have no other behind them
+-- `blockFlags`   the flags of a superframe block
+-- `flags`        each of some flags is 0 or 1
+-- `allowed`      a flag is 0 or 1, and what stands behind it is right where it is 1
+-- `named`        a mode without `Reserved` is one that has a name
+-- `valid`        there is a record that is meant
+-- `foreign`      what is answered where there is none
 use Prim.Native.Nat.{ℕ}
 use mathlib.Core.List.{List, [], _∷_}
 use mathlib.Core.Bool.{Bool, true}

@@ -1,5 +1,8 @@
--- What `Rattle.s2xv2.specs.Read` says of a body, as the structs of this crate hold it: `presentNow` has the parts that its core asks for, `asked` are
--- the parts that such a struct names, `endsNow` has where each of them ends, and `needsTo` lists the ends with their places. Assumes nothing.
+-- What `Rattle.s2xv2.specs.Read` says of a body, as the structs of this crate hold it. Assumes nothing.
+-- `presentNow`  the parts that its core asks for
+-- `asked`       the parts that such a struct names
+-- `endsNow`     where each of them ends
+-- `needsTo`     the ends with their places
 use Prim.Native.Nat.{ℕ}
 use mathlib.Core.List.{List, [], _∷_}
 use Rattle.wire.specs.Widths.{size}

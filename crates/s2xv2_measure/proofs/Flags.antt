@@ -1,5 +1,5 @@
--- Laws of flags that cross as bytes: every flag of a record that could be one is 0 or 1 if it is there (`flagged`, `block-allowed`, `flagged-block`), and what is
--- joined, both or only there goes by such bytes.
+-- Laws of flags that cross as bytes: every flag of a record that could be one is 0 or 1 if it is there (`flagged`, `block-allowed`,
+-- `flagged-block`), and what is joined, both or only there goes by such bytes.
 -- Assumes nothing.
 use mathlib.Core.Path.{_≡_, refl, sym, ap, ap₂, _∙_}
 use mathlib.Core.Bool.{Bool, true, false}

@@ -1,4 +1,5 @@
--- What the code gives is what crosses: of the superframe block (`flat-block`), of the core (`flat-core`), and of the record (`flat-record`); and the numbers of a reading mean its answer (`told-in`).
+-- What the code gives is what crosses: of the superframe block (`flat-block`), of the core (`flat-core`), and of the record (`flat-record`);
+-- and the numbers of a reading mean its answer (`told-in`).
 -- Assumes nothing.
 use mathlib.Core.Path.{_≡_, refl, ap}
 use mathlib.Core.Bool.{Bool, true, false}

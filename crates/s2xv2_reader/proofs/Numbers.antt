@@ -1,5 +1,5 @@
--- What a body holds, as the plain numbers that the code gives: `flatBlockAt` a superframe block, `flatCoreAt` the core, `flatRecordAt` the record. `Flat.antt` shows that they are what crosses of
--- `superframeAt` and `recordAt`.
+-- What a body holds, as the plain numbers that the code gives: `flatBlockAt` a superframe block, `flatCoreAt` the core, `flatRecordAt` the
+-- record. `Flat.antt` shows that they are what crosses of `superframeAt` and `recordAt`.
 -- Assumes nothing.
 use Prim.Native.Nat.{ℕ, _+_}
 use mathlib.Core.List.{List, [], _∷_, _++_}

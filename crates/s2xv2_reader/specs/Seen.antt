@@ -1,5 +1,8 @@
--- What a caller sees: of `Parsed` the numbers of its answer, and its record (`seen`); of a reading as plain numbers both as they cross (`flatSeen`, and `flatRefused` for a refused
--- one, which shows the default record). `answerIn` is the answer that the numbers of a reading mean. Assumes nothing.
+-- What a caller sees of a reading. Assumes nothing.
+-- `seen`         of `Parsed`, the numbers of its answer and its record
+-- `flatSeen`     of a reading, both as they cross in plain numbers
+-- `flatRefused`  that of a refused reading, which shows the default record
+-- `answerIn`     the answer that the numbers of a reading mean
 use Prim.Native.Nat.{_%_}
 use lib.Dec.{eqb}
 use Rattle.wire.specs.Flags.{when}

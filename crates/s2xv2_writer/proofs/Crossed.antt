@@ -1,4 +1,5 @@
--- What the number of an answer to a record as numbers says: 0 that the record can be written (`accepted-flat`), and any other that nothing is stored (`refused-flat`).
+-- What the number of an answer to a record as numbers says: 0 that the record can be written (`accepted-flat`), and any other that nothing
+-- is stored (`refused-flat`).
 -- Assumes nothing.
 use mathlib.Core.Path.{_≡_, refl}
 use mathlib.Core.Bool.{Bool, true, false}

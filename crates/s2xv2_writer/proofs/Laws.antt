@@ -1,4 +1,4 @@
--- Laws of the bonds that list B passes, and of the parts one after the other.
+-- Laws of the bonds that list B passes, of the parts one after the other, and of parts made of numbers that cross.
 -- Assumes nothing.
 use mathlib.Core.Path.{_≡_, refl, sym, ap, _∙_}
 use mathlib.Core.List.{List, [], _∷_, _++_, append-assoc}

@@ -1,4 +1,5 @@
--- What the empty call answers and leaves, by the slot's size: each definition picks by that one test. The loop that fills a slot has laid so many fillers over its first bytes (`laid`).
+-- What the empty call answers and leaves, by the slot's size: each definition picks by that one test. The loop that fills a slot has laid
+-- so many fillers over its first bytes (`laid`).
 -- Assumes nothing.
 use mathlib.Core.Path.{_≡_, refl, ap}
 use mathlib.Core.Bool.{true, false}

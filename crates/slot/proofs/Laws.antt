@@ -1,7 +1,7 @@
 -- What a slot reads as in the states that a job goes through: each has its form from the laws of good form, and shows what its first tag says.
 -- Assumes nothing.
--- Under a stuffing descriptor over the whole slot it is empty, whatever stands behind (`cover`); with the first tag made stuffing's it is empty (`retag`); with a descriptor of
--- ours and stuffing behind it, it reads as the body (`image`); emptied it is empty (`emptied-reads`).
+-- Under a stuffing descriptor over the whole slot it is empty, whatever stands behind (`cover`); with the first tag made stuffing's it is
+-- empty (`retag`); with a descriptor of ours and stuffing behind it, it reads as the body (`image`); emptied it is empty (`emptied-reads`).
 use mathlib.Core.Path.{_≡_, refl, ap, _∙_}
 use mathlib.Core.List.{List}
 use mathlib.Core.Bool.{true}

@@ -1,4 +1,6 @@
--- What reading a slot answers, in numbers: `slotTold`, and `slotSeen` with the record shown. Assumes nothing.
+-- What reading a slot answers, in numbers. Assumes nothing.
+-- `slotTold`  of an answer
+-- `slotSeen`  that, with the record shown
 use Prim.Native.Nat.{ℕ}
 use mathlib.Core.List.{List, [], _∷_}
 use Rattle.answers.specs.Answer.{numbers}

@@ -1,4 +1,6 @@
--- The empty call: `emptyTold` is its answer for a slot of n bytes, `emptied` the slot afterwards. Assumes nothing.
+-- The empty call. Assumes nothing.
+-- `emptyTold`  its answer in numbers, for a slot of so many bytes
+-- `emptied`    the slot afterwards
 use Prim.Native.Nat.{ℕ}
 use mathlib.Core.List.{List}
 use lib.ListN.{length}

@@ -1,5 +1,12 @@
--- What a slot reads as: `shown`, a `Shown`. It is `showsNone` for a slot out of form, `showsEmpty` for one whose first tag is stuffing's (both `without` a record), else `showsBody` of
--- the body in it, with the reader's answer `placed` in the slot. `ReadsAs` joins good form to what is shown. Assumes nothing.
+-- What a slot reads as. Assumes nothing.
+-- `Shown`       what is shown: an answer, a record and a tail
+-- `without`     that with no record and no tail
+-- `showsNone`   that of a slot out of form
+-- `showsEmpty`  that of a slot whose first tag is stuffing's
+-- `placed`      the reader's answer, with the tail's place in the slot
+-- `showsBody`   that of a slot with a body in it
+-- `shown`       what a slot reads as
+-- `ReadsAs`     a slot is in good form, and reads so
 use Prim.Native.Nat.{ℕ, _+_, _-_}
 use mathlib.Core.Path.{_≡_}
 use mathlib.Core.Bool.{true}

@@ -1,5 +1,10 @@
--- Lists of stores: `_at_` is a store, `stored` a slot after one store, `run` a slot after all stores of a list, `upwards` the stores of some
--- bytes one behind the other; `Within` says between which places a list stores, and `Own` what a list may leave at a place. Assumes nothing.
+-- Lists of stores. Assumes nothing.
+-- `_at_`     a store: a byte at a place
+-- `stored`   a slot after one store
+-- `run`      a slot after all stores of a list
+-- `upwards`  the stores of some bytes, one behind the other
+-- `Within`   between which places a list stores
+-- `Own`      what a list may leave at a place
 use Prim.Native.Nat.{ℕ, suc, _≤_, _<_}
 use mathlib.Core.Path.{_≡_}
 use mathlib.Core.List.{List, [], _∷_, List·Memᴰ}

@@ -1,5 +1,5 @@
--- Laws of flags: `is-bit` and `bit-is` go between a flag and its bit and back, `bit-small` bounds the bit, `and-assoc`, `and-true` and `and-false` are of flags that are
--- joined, and `never` says that clear is not set.
+-- Laws of flags: `is-bit` and `bit-is` go between a flag and its bit and back, `bit-small` bounds the bit, `and-assoc`, `and-true` and
+-- `and-false` are of flags that are joined, and `never` says that clear is not set.
 -- Assumes nothing.
 use mathlib.Core.Path.{_≡_, refl}
 use mathlib.Core.Bool.{Bool, true, false}

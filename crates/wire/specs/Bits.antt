@@ -1,7 +1,9 @@
--- A field of bits in a list of bytes, high bits first, as the standard's tables have it: `bits s a o w` is the field of w bits that
--- starts o bits after the start of byte a. `number` is bytes as one number; `at` and `span` say which bytes a field touches.
--- Bytes behind the end of the list count as 0. Assumes nothing.
--- Each definition is an `abbrev`: at numerals it computes to arithmetic of bytes, `bits s 4 4 1` to `getD s 4 0 / 8 % 2`.
+-- A field of bits in a list of bytes, high bits first, as in the standard's tables. Bytes behind the end count as 0.
+-- All are `abbrev`s: at numerals they compute to arithmetic, `bits s 4 4 1` to `getD s 4 0 / 8 % 2`. Assumes nothing.
+-- `at`      the place so many bytes behind another
+-- `number`  bytes as one number
+-- `span`    how many bytes a field touches
+-- `bits`    `bits s a o w`: the field of w bits that starts o bits after the start of byte a
 use Prim.Native.Nat.{ℕ, zero, suc, _+_, _-_, _*_, _/_, _%_, _^_}
 use mathlib.Core.List.{List}
 use lib.ListN.{getD}

@@ -1,4 +1,5 @@
--- A count as it stands on the wire: `lessOne`. Assumes nothing.
+-- A count as it stands on the wire. Assumes nothing.
+-- `lessOne`  the count minus one
 use Prim.Native.Nat.{ℕ, zero, suc}
 
 -- the count minus one, with the wrap of a byte

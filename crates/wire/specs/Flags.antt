@@ -1,4 +1,11 @@
--- Flags: `when` picks by one, `bit` and `isOne` go between a flag and a bit, `and`, `not`, `differ` join them. `joinedOf` two numbers has the bits of both. Assumes nothing.
+-- Flags, and what goes by them. Assumes nothing.
+-- `when`          one of two values, by a flag
+-- `only`          a number where a flag is set, else 0
+-- `bit`, `isOne`  a flag as a bit, and back
+-- `and`           both are set
+-- `not`           it is clear
+-- `differ`        one is set and the other is not
+-- `joinedOf`      the bits of two numbers together
 use Prim.Native.Nat.{ℕ}
 use mathlib.Core.Bool.{Bool, true, false}
 use lib.Bits.{bitOr}

@@ -1,5 +1,8 @@
--- What is written: parts one after the other, each some widths with the values that stand there (`Part`, made by `_⦂_`). `bytesOf` is
--- their bytes, `sizes` how many, `AllFit` that every value is small enough. Assumes nothing.
+-- What is written: parts one after the other. Assumes nothing.
+-- `Part`, `_⦂_`  some widths with the values that stand there
+-- `bytesOf`      the bytes of the parts, and then a tail
+-- `sizes`        how many bytes the parts take
+-- `AllFit`       every value is small enough for its width
 use Prim.Native.Nat.{ℕ, _+_}
 use mathlib.Core.List.{List, [], _∷_, _++_}
 use Rattle.wire.specs.Widths.{size, pack, Fit}

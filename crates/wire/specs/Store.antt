@@ -1,4 +1,5 @@
--- What a run of stores leaves in a lent list: `storedFrom`. Assumes nothing.
+-- What a run of stores leaves in a lent list. Assumes nothing.
+-- `storedFrom`  a list with some bytes stored one after the other from a place on
 use Prim.Native.Nat.{ℕ, _+_}
 use mathlib.Core.List.{List, [], _∷_}
 use lib.ListN.{set}

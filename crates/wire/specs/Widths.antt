@@ -1,8 +1,19 @@
--- A part of the wire is a list of widths, in wire order. Reading cuts fields along it (`cut`, `give`, `read`), writing packs values
--- along it (`pack`); `size` is how many bytes it takes, `Fit` says that values are as many and as small as the widths ask, `Bytes`
--- that a list holds bytes. Assumes nothing. All are `abbrev`s: at numerals they compute to arithmetic of bytes.
--- `total` is the size in bits, `cutFrom` cuts from some bits on, `Over` is the type of a function of as many numbers as there are widths;
--- `be` is a number as bytes, `beside` puts a field behind bits that wait for their byte, and `packFrom` packs behind such bits.
+-- A part of the wire is a list of widths, in wire order: reading cuts fields along it, writing packs values along it.
+-- All are `abbrev`s: at numerals they compute to arithmetic of bytes. Assumes nothing.
+-- `total`     its size in bits
+-- `size`      its size in bytes
+-- `cutFrom`   the fields that are cut from some bits on
+-- `cut`       the fields that are cut from a byte on
+-- `Over`      the type of a function of as many numbers as there are widths
+-- `give`      such a function at the values of a list
+-- `read`      such a function at the fields that are cut from a byte on
+-- `be`        a number as bytes
+-- `beside`    a field put behind bits that wait for their byte
+-- `packFrom`  the values packed behind such bits
+-- `pack`      the values packed into bytes
+-- `wide`      a value takes more than so many bits
+-- `Fit`       values are as many and as small as the widths ask
+-- `Bytes`     a list holds bytes
 use Prim.Native.Nat.{ℕ, zero, suc, _+_, _*_, _/_, _%_, _^_, _<_}
 use mathlib.Core.List.{List, [], _∷_, _++_}
 use mathlib.Core.Bool.{Bool}
