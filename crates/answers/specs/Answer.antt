@@ -1,4 +1,4 @@
--- The numbers that a caller may see (document 01), the answer's own first, then what it tells. No other definition
+-- The numbers that a caller may see (docs/ANSWERS.md), the answer's own first, then what it tells. No other definition
 -- gives a refusal's number, but `stepTold` of `job` for 8. Assumes nothing.
 -- `numbers`    of a refusal
 -- `told`       of an answer

@@ -1,4 +1,4 @@
--- The starred cases of document 01 that are slots, in the same table as those that are bodies: what the definitions give at each row is what is due there.
+-- The cases at the edges that are slots, in the same table as those that are bodies: what the definitions give at each row is what is due there.
 -- Assumes nothing.
 use mathlib.Core.Path.{_≡_, refl}
 use mathlib.Core.List.{List, [], _∷_, _++_}

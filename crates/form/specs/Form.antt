@@ -1,4 +1,4 @@
--- When a slot is in good form (document 01, 'Slot and job'). Assumes nothing.
+-- When a slot is in good form (docs/ANSWERS.md, 'Slot and job'). Assumes nothing.
 -- `byteAt`        a byte of a slot
 -- `all`           every test of a list holds
 -- `goodSize`      a slot may have so many bytes

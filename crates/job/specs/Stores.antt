@@ -1,4 +1,4 @@
--- The stores of a job (document 01, 'Slot and job'). Assumes nothing.
+-- The stores of a job (docs/ANSWERS.md, 'Slot and job'). Assumes nothing.
 -- `behind`   what the finished slot has from its third byte on
 -- `covered`  the stores of a middle, between those that lay stuffing over the slot and those that take it off
 -- `stores`   the stores for a descriptor

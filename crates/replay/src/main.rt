@@ -1,4 +1,4 @@
-// Runs the cases of document 01 and the large sets against the library, and prints what the crate's own code answered to them if all is
+// Runs the cases with a name and the large sets against the library, and prints what the crate's own code answered to them if all is
 // right: the answers of the cases with a name, and of each set the counts of its answers by number and place, and a digest of every number
 // and byte that was answered.
 //

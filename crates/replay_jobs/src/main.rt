@@ -1,7 +1,7 @@
 // Jobs on slots: begins with a name, for each answer that begin gives; and for every slot size and several records a
 // job that is stopped after every number of stores, made by one step or by two of a job that is lent: what the slot
 // then reads as and holds, and what a new job begun there leaves, goes into a digest. What is printed is what a plain
-// model of document 01 gives if all is right.
+// model of docs/ANSWERS.md gives if all is right.
 mod lent;
 mod named;
 mod print;

@@ -15,7 +15,7 @@ fn size(text: &[u8], n: usize) {
     word(text, (n % 4_294_967_296) as u32);
 }
 
-// Prints a refusal of begin: its number, and what it tells. Any other is a number that document 01 does not have.
+// Prints a refusal of begin: its number, and what it tells. Any other is a number that is not there.
 fn refusal(why: Refusal) {
     match why {
         Refusal::Long { length } => word(b"2 ", length as u32),

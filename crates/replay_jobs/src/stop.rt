@@ -13,7 +13,7 @@ use job::job::Stepped;
 use s2xv2::record::S2Xv2SatelliteDeliverySystem;
 use slot::answer::SlotAnswer;
 
-// The refusals that a slot or a begin gives here; any other is a number that document 01 does not have.
+// The refusals that a slot or a begin gives here; any other is a number that is not there.
 fn put_refusal(d: u32, why: Refusal) -> u32 {
     match why {
         Refusal::Slot => put(d, 6),

@@ -1,4 +1,4 @@
--- The starred cases of document 01, as one table under one statement: what the definitions give at each row is what is due there.
+-- The cases at the edges that are to be proved, as one table under one statement: what the definitions give at each row is what is due there.
 -- Assumes nothing.
 use mathlib.Core.Path.{_≡_, refl}
 use mathlib.Core.List.{List, [], _∷_, _++_}
@@ -71,7 +71,7 @@ satellite n =
 abbrev write : ℕ → List ℕ
 write n = writeTold (satellite n) [] 4096
 
--- the body that document 01 prints, and the fields of its core
+-- the body whose text is the dumper's example, and the fields of its core
 abbrev printed : List ℕ
 printed = 0 ∷ 0 ∷ 0 ∷ 7 ∷ 0x10 ∷ 5 ∷ 3 ∷ 0 ∷ 0 ∷ 0x2A ∷ 0 ∷ 0xB7 ∷ 0x1B ∷ 0 ∷ 0 ∷ 0 ∷ 0x6B ∷ 0x6C ∷ 0 ∷ 0 ∷ 0 ∷ 0 ∷ 8 ∷ []
 

@@ -1,4 +1,4 @@
--- Where each field stands, by byte, bits before it, and width, as document 01 has it. The record's definition goes by the widths of Table
+-- Where each field stands, by byte, bits before it, and width. The record's definition goes by the widths of Table
 -- 144b alone, so that the two descriptions hold each other. Reserved bits are among the fields, wherever the wire carries them.
 -- Assumes nothing.
 use mathlib.Core.Path.{_≡_, refl}

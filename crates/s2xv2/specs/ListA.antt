@@ -1,4 +1,4 @@
--- List A of document 01: a record that contradicts itself. Assumes nothing.
+-- List A (docs/ANSWERS.md): a record that contradicts itself. Assumes nothing.
 -- `misnamed`       the test of a mode
 -- `inSuperframe`   a test of a superframe block, made one of a block that may be absent
 -- `partsA`         tests 1 to 7, of mode, flags and parts

@@ -1,4 +1,4 @@
--- List B of document 01: a value that the wire cannot carry. Only what is on the wire is judged. Assumes nothing.
+-- List B (docs/ANSWERS.md): a value that the wire cannot carry. Only what is on the wire is judged. Assumes nothing.
 -- `coreB`        tests 1 to 9, of the core
 -- `scramblingB`  tests 10 to 12, of the scrambling index
 -- `bondB`        tests 13 and 14, of the bonds
