@@ -1,8 +1,11 @@
 /* Reads, measures and writes the body of an S2Xv2 satellite delivery system descriptor (ETSI EN 300 468, 6.4.6.5.3), and replaces the descriptor in a slot of a live
    loop by single-byte stores with a place to stop between any two, from C11 or C++.
 
-   Every call takes any bytes, record, slot or job, and refuses the bad ones by number; none traps, and a refused call stores nothing. A pointer whose length is 0 may
-   be null. Nothing that is lent to a call is kept; what it may write (a buffer, a slot, a job) must not overlap anything else that is lent to it. Link with libcapi.a, which `rt staticlib capi` writes for x86-64. */
+   Every call takes any bytes, record, slot or job, and refuses the bad ones by number; none traps, and a refused call stores nothing. docs/ANSWERS.md has every
+   number, what it tells and when it is given. A pointer whose length is 0 may be null. A length may be any number: a body or a tail above 4,096 bytes, and a slot
+   below 21 or above 257, are refused before a byte of them is looked at. What remains the caller's duty: that as many bytes as a smaller length says are there, that a
+   job lent by pointer is not null, and that what a call may write (a buffer, a slot, a job) overlaps nothing else that is lent to it. Nothing that is lent is kept.
+   Link with libcapi.a, which `rt staticlib capi` writes for x86-64 Linux. */
 #ifndef S2XV2_H
 #define S2XV2_H
 

@@ -178,6 +178,32 @@ static void absentees(void) {
     }
 }
 
+/* Lengths that no bytes have, as a caller passes them by mistake: each is refused before a byte is looked at. */
+static void lengths(void) {
+    const size_t wild[] = {4097, 65517, 65518, 65536, SIZE_MAX - 18, SIZE_MAX - 17, SIZE_MAX - 16, SIZE_MAX / 2, SIZE_MAX};
+    const uint8_t byte = 7;
+    uint8_t slot[21];
+    uint8_t buffer[32];
+    S2xv2Record record = zeros();
+    size_t k;
+    CHECK(told(s2xv2_slot_make_empty(slot, 21), S2XV2_ACCEPTED, 0, 0, 0));
+    memset(buffer, 0xA5, sizeof buffer);
+    for (k = 0; k < sizeof wild / sizeof *wild; k++) {
+        const size_t n = wild[k];
+        const size_t length = n < 65517 ? n + 18 : 65535;
+        CHECK(told(s2xv2_parse(&byte, n).answer, S2XV2_LONG, n < 65535 ? n : 65535, 0, 0));
+        CHECK(told(s2xv2_serialized_len(record, &byte, n), S2XV2_LONG, length, 0, 0));
+        CHECK(told(s2xv2_serialize_into(record, &byte, n, buffer, 32), S2XV2_LONG, length, 0, 0) && all(buffer, 32, 0xA5));
+        CHECK(told(s2xv2_begin(slot, 21, record, &byte, n).answer, S2XV2_LONG, length, 0, 0));
+        CHECK(told(s2xv2_begin(&byte, n, record, NULL, 0).answer, S2XV2_SLOT, 0, 0, 0));
+        CHECK(told(s2xv2_slot_read(&byte, n).answer, S2XV2_SLOT, 0, 0, 0));
+        CHECK(told(s2xv2_slot_make_empty(slot, n), S2XV2_SLOT, 0, 0, 0) && slot[0] == 0x42);
+    }
+    record.multiple_input_stream_flag = 1;
+    CHECK(told(s2xv2_serialized_len(record, &byte, SIZE_MAX), S2XV2_INCONSISTENT, 2, 0, 0));
+    CHECK(told(s2xv2_serialize_into(record, &byte, SIZE_MAX, buffer, 32), S2XV2_INCONSISTENT, 2, 0, 0) && all(buffer, 32, 0xA5));
+}
+
 static void slots(void) {
     uint8_t slot[24];
     S2xv2Part part;
@@ -284,6 +310,7 @@ int main(void) {
     writing();
     foreigners();
     absentees();
+    lengths();
     slots();
     begins();
     steps();

@@ -1,7 +1,7 @@
 // How many bytes a record takes.
 ghost use mathlib.Core.Path.{_≡_};
 ghost use mathlib.Core.Bool.{true};
-ghost use Prim.Native.Nat.{_+_, _*_, _≤_, _<_};
+ghost use Prim.Native.Nat.{_+_, _*_, _≤_, _<_, min};
 ghost use lib.Dec.{eqb};
 ghost use Rattle.wire.specs.Flags.{isOne, only};
 ghost use Rattle.wire.specs.Parts.{sizes};
@@ -49,6 +49,13 @@ fn superframe_len(there: u8, f: FlatSuperframe) -> usize
     } else {
         0
     }
+}
+
+// A tail of `n` bytes, with 65,535 for all above that: such a tail is too long whatever the record is, and a sum with it cannot wrap.
+pub(crate) fn tail_len(n: usize) -> usize
+    ensures { λ r. ⌜ r ≡ min n 65535 ⌝ }
+{
+    if 65535 < n { 65535 } else { n }
 }
 
 // All parts, without the tail.

@@ -37,7 +37,7 @@ fn judged_len(c: FlatRecord, tail: &[u8]) -> Answer
     if place != 0 {
         return Answer::Refused(Refusal::Inconsistent { place });
     }
-    let need = length::parts_len(c) + tail.len();
+    let need = length::parts_len(c) + length::tail_len(tail.len());
     if 4096 < need {
         return Answer::Refused(Refusal::Long {
             length: saturated(need),
@@ -71,7 +71,7 @@ fn ready_len(c: FlatRecord, tail: &[u8], room: usize) -> usize
     ensures { λ n. ⌜ ((n ≡ 0 → ⊥) → (lengthTold (meant c) (now (tail .entry)) ≡ 0 ∷ n ∷ []) × (writeTold (meant c) (now (tail .entry)) room ≡ 0 ∷ n ∷ [])) ⌝ }
 {
     if is_checked(c) {
-        let need = length::parts_len(c) + tail.len();
+        let need = length::parts_len(c) + length::tail_len(tail.len());
         if 4096 < need {
             0
         } else if room < need {
