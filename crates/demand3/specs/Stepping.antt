@@ -1,10 +1,15 @@
 -- A job and its slot under steps, as the contracts of begin and step say. Assumes nothing.
 -- `Going`        a job and its slot
 -- `begun`        where begin leaves them
--- `step`         one step on, and `stepping` through steps with given allowances
--- `sum`          of the allowances; `AllPositive`: each is at least 1
--- `Stopped`      a job that was begun, stepped some times and dropped; `Typed`: what the types say of it, `AllTyped` of several
--- `leaves`       the slot that it leaves, and `interrupted` the one that several leave
+-- `step`         one step on
+-- `stepping`     through steps with given allowances
+-- `sum`          of the allowances
+-- `AllPositive`  each allowance is at least 1
+-- `Stopped`      a job that was begun, stepped some times and dropped
+-- `Typed`        what the types say of it
+-- `AllTyped`     what they say of several
+-- `leaves`       the slot that it leaves
+-- `interrupted`  the slot that several leave
 use Prim.Native.Nat.{ℕ, _+_, _≤_}
 use mathlib.Core.List.{List, [], _∷_}
 use lib.ListN.{length}
