@@ -116,7 +116,7 @@ impl<'a> S2Xv2SatelliteDeliverySystem<'a> {
     pub fn parse(body: &'a [u8]) -> Result<Self, Refusal> {
         let parsed = ffi::parse(body);
         let (place, _) = accepted(&parsed.answer)?;
-        let tail = body.get(place..).ok_or(Refusal::Foreign)?;
+        let tail = body.get(place..).ok_or(Refusal::BadArchive)?;
         record_out(&parsed.body, tail)
     }
 
@@ -134,7 +134,7 @@ impl<'a> S2Xv2SatelliteDeliverySystem<'a> {
     /// ```
     ///
     /// # Errors
-    /// [`Refusal::Inconsistent`], [`Refusal::Long`] above 4,096 bytes, and [`Refusal::Foreign`] for more than 255 ids.
+    /// [`Refusal::TooManyIds`], then [`Refusal::Inconsistent`], then [`Refusal::Long`] above 4,096 bytes.
     pub fn serialized_len(&self) -> Result<usize, Refusal> {
         let (length, _) = accepted(&ffi::serialized_len(record_in(self, id_count(self)?), self.reserved_tail))?;
         Ok(length)

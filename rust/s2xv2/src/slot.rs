@@ -24,7 +24,7 @@ pub fn read_slot(bytes: &[u8]) -> Result<Option<S2Xv2SatelliteDeliverySystem<'_>
     if place == 0 {
         return Ok(None);
     }
-    let tail = bytes.get(place..).and_then(|rest| rest.get(..length)).ok_or(Refusal::Foreign)?;
+    let tail = bytes.get(place..).and_then(|rest| rest.get(..length)).ok_or(Refusal::BadArchive)?;
     record_out(&read.body, tail).map(Some)
 }
 
