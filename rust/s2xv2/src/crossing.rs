@@ -1,8 +1,8 @@
-//! Records and answers across the boundary. Whatever numbers come back, they have a meaning or are refused, and nothing here can panic. A flag
-//! is clear at 0 and else set, and a code is taken as its type takes any number. Refused as [`Refusal::BadArchive`], and never taken for another,
-//! is a number that the library's contracts do not allow where it would be a place or a count: the number of an answer, what a refusal tells,
-//! more ids than there is room for, a tail beyond the bytes that were lent. A record that the caller made is refused here for one thing alone,
-//! as [`Refusal::TooManyIds`].
+//! Records and answers across the boundary. Whatever numbers come back, they have a meaning or are refused, and nothing here can panic. A
+//! flag is clear at 0 and else set, and a code is taken as its type takes any number. Refused as [`Refusal::BadArchive`], and never taken for
+//! another, is a number that the library's contracts do not allow where it would be a place or a count: the number of an answer, what a
+//! refusal tells, more ids than there is room for, a tail beyond the bytes that were lent. A record that the caller made is refused here for
+//! one thing alone, as [`Refusal::TooManyIds`].
 use crate::{ffi, Polarization, Refusal, RollOff, S2Xv2Mode, S2Xv2SatelliteDeliverySystem, S2Xv2Superframe};
 use alloc::{vec, vec::Vec};
 
@@ -181,8 +181,8 @@ pub(crate) fn accepted(answer: &ffi::Answer) -> Result<(usize, usize), Refusal> 
     }
 }
 
-/// Why an answer refuses. A number that the contracts do not allow is [`Refusal::BadArchive`], and never taken for another. So is 100, which
-/// they allow for a flag above 1, and for a code of 6 or more whose mode is not reserved: no record that crosses from here has either.
+/// Why an answer refuses. A number that the contracts do not allow is [`Refusal::BadArchive`], and never taken for another. So is 100,
+/// which they allow for a flag above 1, and for a code of 6 or more whose mode is not reserved: no record that crosses from here has either.
 #[cold]
 fn refusal(answer: &ffi::Answer) -> Refusal {
     let place = |last: u8| u8::try_from(answer.first).ok().filter(|place| (1..=last).contains(place));

@@ -44,6 +44,9 @@ pub struct Progress {
 }
 
 impl Job {
+    /// The bytes that a job takes where it is kept: 288 on a machine with pointers of 64 bits, as the archive is for.
+    pub const SIZE: usize = core::mem::size_of::<Self>();
+
     /// A job that stores a record and its tail in a slot. Begin itself stores nothing, and keeps neither the slot nor the record.
     ///
     /// ```

@@ -139,8 +139,8 @@ fn are(count: usize) -> &'static str {
 }
 
 impl Refusal {
-    /// The number of the refusal: document 01's, from 1 to 8. [`Refusal::TooManyIds`] has 100, as the C header has it for a record that none
-    /// of the library's could be. [`Refusal::BadArchive`] has 101, which is no number of document 01 and none that an archive may answer.
+    /// The number of the refusal: document 01's, from 1 to 8. [`Refusal::TooManyIds`] has 100, as the C header has it for a record that
+    /// none of the library's could be. [`Refusal::BadArchive`] has 101, a number of this crate's own: no document has it, and no archive.
     #[must_use]
     pub const fn number(&self) -> u8 {
         match self {
