@@ -1,6 +1,7 @@
 //! The proved library, asked through its C boundary and the safe crate, beside the crate's own code and the plain model of the oracle.
 //!
-//!     differential [COUNT]      at least COUNT comparisons of calls on bodies and records, 200,000 without it, and a job for each 50 of them
+//!     differential [COUNT]      at least COUNT comparisons of calls on bodies and records, 200,000 without it, a job for each 50 of them,
+//!                               and the names of all codes
 //!
 //! A comparison is of all that one call says and leaves: the answer with what it tells, each field, the tail, each byte of the buffer or
 //! slot. The first difference ends the run.
@@ -10,14 +11,29 @@ mod slots;
 mod tally;
 mod types;
 
+#[path = "../../oracle/src/labels.rs"]
+mod labels;
 #[path = "../../oracle/src/numbers.rs"]
 mod numbers;
-use oracle::values;
+use oracle::{crate_side, values};
 
 use std::process::ExitCode;
 use tally::Tally;
+use types::Record;
 
 const COUNT: u64 = 200_000;
+
+/// The names of every code, and the body's own name and number.
+fn names(tally: &mut Tally) -> Result<(), String> {
+    for code in 0..=255 {
+        tally.same(&labels::names(code), &oracle::labels::names(code), || {
+            format!("names of the code {code}")
+        })?;
+    }
+    tally.same(&(Record::NAME, Record::TAG_EXTENSION), &crate_side::NAME_AND_TAG, || {
+        "name and tag extension of the body".to_string()
+    })
+}
 
 fn run(count: u64, tally: &mut Tally) -> Result<(), String> {
     bodies::named(tally)?;
@@ -33,6 +49,9 @@ fn run(count: u64, tally: &mut Tally) -> Result<(), String> {
         slots::case(case, tally)?;
     }
     println!("slots and jobs: {} comparisons in {jobs} cases", tally.comparisons - before);
+    let before = tally.comparisons;
+    names(tally)?;
+    println!("names: {} comparisons", tally.comparisons - before);
     Ok(())
 }
 

@@ -7,10 +7,13 @@ use crate::model::inconsistency;
 use crate::numbers::{from_values, to_values};
 use crate::types::{Polarization, Record, RollOff, S2Xv2Mode};
 use crate::values::*;
-use origin::descriptors::extension::{Parse, Serialize};
+use origin::descriptors::extension::{ExtensionBodyDef, Parse, Serialize};
 use origin::Error;
 
 pub const LIMIT: usize = 4096;
+
+/// What the crate calls the body, and the extension of the tag under which it finds one.
+pub const NAME_AND_TAG: (&str, u8) = (Record::NAME, Record::TAG_EXTENSION);
 
 pub struct Reading<'a> {
     pub answer: Answer,

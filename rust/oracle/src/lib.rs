@@ -5,6 +5,7 @@ pub mod compare;
 pub mod crate_side;
 pub mod generator;
 pub mod jobs;
+pub mod labels;
 pub mod model;
 pub mod named;
 mod numbers;

@@ -1,14 +1,16 @@
-//! Records and answers across the boundary. Whatever numbers come back, they have a meaning or are refused, and nothing here can panic. A flag
-//! is clear at 0 and else set, and a code is taken as its type takes any number. Refused as [`Refusal::Foreign`], and never taken for another,
-//! is a number that the library's contracts do not allow where it would be a place or a count: the number of an answer, what a refusal tells,
-//! more ids than there is room for, a tail beyond the bytes that were lent.
+//! Records and answers across the boundary. Whatever numbers come back, they have a meaning or are refused, and nothing here can panic. A
+//! flag is clear at 0 and else set, and a code is taken as its type takes any number. Refused as [`Refusal::BadArchive`], and never taken for
+//! another, is a number that the library's contracts do not allow where it would be a place or a count: the number of an answer, what a
+//! refusal tells, more ids than there is room for, a tail beyond the bytes that were lent. A record that the caller made is refused here for
+//! one thing alone, as [`Refusal::TooManyIds`].
 use crate::{ffi, Polarization, Refusal, RollOff, S2Xv2Mode, S2Xv2SatelliteDeliverySystem, S2Xv2Superframe};
 use alloc::{vec, vec::Vec};
 
 /// How many ids a record has. Refuses more than the count, which is one byte, can say.
 #[inline]
 pub(crate) fn id_count(r: &S2Xv2SatelliteDeliverySystem<'_>) -> Result<u8, Refusal> {
-    u8::try_from(r.secondary_delivery_system_ids.len()).map_err(|_| Refusal::Foreign)
+    let count = r.secondary_delivery_system_ids.len();
+    u8::try_from(count).map_err(|_| Refusal::TooManyIds { count })
 }
 
 /// A record on its way in, with the number of its ids. What is absent is 0.
@@ -154,7 +156,7 @@ fn ids_out(c: &ffi::Record) -> Result<Vec<u32>, Refusal> {
         0 => Ok(Vec::new()),
         1 => Ok(vec![first]),
         2 => Ok(vec![first, second]),
-        _ => Err(Refusal::Foreign),
+        _ => Err(Refusal::BadArchive),
     }
 }
 
@@ -179,7 +181,8 @@ pub(crate) fn accepted(answer: &ffi::Answer) -> Result<(usize, usize), Refusal> 
     }
 }
 
-/// Why an answer refuses. A number that the contracts do not allow is [`Refusal::Foreign`], and never taken for another.
+/// Why an answer refuses. A number that the contracts do not allow is [`Refusal::BadArchive`], and never taken for another. So is 100,
+/// which they allow for a flag above 1, and for a code of 6 or more whose mode is not reserved: no record that crosses from here has either.
 #[cold]
 fn refusal(answer: &ffi::Answer) -> Refusal {
     let place = |last: u8| u8::try_from(answer.first).ok().filter(|place| (1..=last).contains(place));
@@ -198,7 +201,7 @@ fn refusal(answer: &ffi::Answer) -> Refusal {
         8 => Some(Refusal::OtherSize),
         _ => None,
     };
-    refusal.unwrap_or(Refusal::Foreign)
+    refusal.unwrap_or(Refusal::BadArchive)
 }
 
 #[cfg(test)]
@@ -233,7 +236,6 @@ mod tests {
             (6, Refusal::Slot),
             (7, Refusal::NoFit { size: 4 }),
             (8, Refusal::OtherSize),
-            (100, Refusal::Foreign),
         ] {
             assert_eq!(accepted(&answer(number, 4)), Err(refusal));
             assert_eq!(usize::from(refusal.number()), number);
@@ -242,11 +244,11 @@ mod tests {
 
     #[test]
     fn numbers_that_no_contract_allows() {
-        for number in [9, 99, 101, usize::MAX] {
-            assert_eq!(accepted(&answer(number, 4)), Err(Refusal::Foreign));
+        for number in [9, 99, 100, 101, 256 + 1, usize::MAX] {
+            assert_eq!(accepted(&answer(number, 4)), Err(Refusal::BadArchive));
         }
         for (number, first) in [(1, 0), (1, 10), (2, 65_536), (3, 0), (3, 10), (4, 23), (4, 256 + 4)] {
-            assert_eq!(accepted(&answer(number, first)), Err(Refusal::Foreign));
+            assert_eq!(accepted(&answer(number, first)), Err(Refusal::BadArchive));
         }
     }
 
@@ -311,7 +313,7 @@ mod tests {
             c.num_channel_bonds = num_channel_bonds;
             let ids = [7, 8].get(..num_channel_bonds.into());
             let out = record_out(&c, &[]).map(|record| record.secondary_delivery_system_ids);
-            assert_eq!(out.as_deref(), ids.ok_or(&Refusal::Foreign));
+            assert_eq!(out.as_deref(), ids.ok_or(&Refusal::BadArchive));
         }
     }
 }

@@ -44,6 +44,9 @@ pub struct Progress {
 }
 
 impl Job {
+    /// The bytes that a job takes where it is kept: 288 on a machine with pointers of 64 bits, as the archive is for.
+    pub const SIZE: usize = core::mem::size_of::<Self>();
+
     /// A job that stores a record and its tail in a slot. Begin itself stores nothing, and keeps neither the slot nor the record.
     ///
     /// ```
@@ -64,8 +67,8 @@ impl Job {
     /// ```
     ///
     /// # Errors
-    /// [`Refusal::Foreign`] for more than 255 ids, then [`Refusal::Slot`], [`Refusal::Inconsistent`], [`Refusal::Long`],
-    /// [`Refusal::NoFit`], [`Refusal::Field`].
+    /// [`Refusal::TooManyIds`], then [`Refusal::Slot`], [`Refusal::Inconsistent`], [`Refusal::Long`], [`Refusal::NoFit`],
+    /// [`Refusal::Field`].
     pub fn begin(slot: &Slot<'_>, record: &S2Xv2SatelliteDeliverySystem<'_>) -> Result<Self, Refusal> {
         let begun = ffi::begin(slot.bytes(), record_in(record, id_count(record)?), record.reserved_tail);
         accepted(&begun.answer)?;
@@ -165,7 +168,7 @@ fn progress(told: ffi::Advanced) -> Result<Progress, Refusal> {
             done: flag(told.done),
         }),
         8 => Err(Refusal::OtherSize),
-        _ => Err(Refusal::Foreign),
+        _ => Err(Refusal::BadArchive),
     }
 }
 
@@ -228,7 +231,7 @@ mod tests {
     fn tellings_that_no_contract_allows() {
         for (number, done) in [(1, 0), (100, 0), (255, 1)] {
             let told = ffi::Advanced { stores: 1, number, done };
-            assert_eq!(progress(told), Err(Refusal::Foreign));
+            assert_eq!(progress(told), Err(Refusal::BadArchive));
         }
         let told = ffi::Advanced {
             stores: 1,

@@ -1,6 +1,16 @@
 //! `S2Xv2_mode`.
+use core::fmt;
 
-/// `S2Xv2_mode` (EN 300 468, table 144c).
+/// `S2Xv2_mode` (EN 300 468, table 144c). It prints as its name, and [`Reserved`](Self::Reserved) with its code.
+///
+/// ```
+/// use s2xv2::S2Xv2Mode;
+///
+/// assert_eq!(S2Xv2Mode::S2XTimeSlicing.name(), "S2X + time slicing");
+/// assert_eq!(S2Xv2Mode::S2XTimeSlicing.to_string(), "S2X + time slicing");
+/// assert_eq!(S2Xv2Mode::Reserved(12).name(), "reserved");
+/// assert_eq!(S2Xv2Mode::Reserved(12).to_string(), "reserved(0x0C)");
+/// ```
 #[derive(Debug, Clone, Copy, PartialEq, Eq)]
 #[non_exhaustive]
 pub enum S2Xv2Mode {
@@ -51,6 +61,19 @@ impl S2Xv2Mode {
         }
     }
 
+    /// The name (EN 300 468, table 144c), the same for all codes in [`Reserved`](Self::Reserved).
+    #[must_use]
+    pub const fn name(self) -> &'static str {
+        match self {
+            Self::Reserved0 | Self::Reserved3 => "reserved for future use",
+            Self::S2X => "S2X",
+            Self::S2XTimeSlicing => "S2X + time slicing",
+            Self::S2XSuperframe => "S2X superframe",
+            Self::S2XSuperframeTimeSlicing => "S2X superframe + timeslicing",
+            Self::Reserved(_) => "reserved",
+        }
+    }
+
     /// Modes 1 and 2: a record has `scrambling_sequence_selector`.
     #[must_use]
     pub const fn has_scrambling_selector(self) -> bool {
@@ -70,12 +93,42 @@ impl S2Xv2Mode {
     }
 }
 
+impl fmt::Display for S2Xv2Mode {
+    fn fmt(&self, f: &mut fmt::Formatter<'_>) -> fmt::Result {
+        match self {
+            Self::Reserved(code) => write!(f, "{}(0x{code:02X})", self.name()),
+            _ => f.write_str(self.name()),
+        }
+    }
+}
+
 #[cfg(test)]
 mod tests {
     use super::*;
+    use alloc::string::ToString;
 
     #[test]
     fn codes_come_back() {
         assert!((0..=255).all(|code| S2Xv2Mode::from_u8(code).to_u8() == code));
+    }
+
+    #[test]
+    fn names() {
+        let names = [
+            "reserved for future use",
+            "S2X",
+            "S2X + time slicing",
+            "reserved for future use",
+            "S2X superframe",
+            "S2X superframe + timeslicing",
+        ];
+        for (code, name) in (0..).zip(names) {
+            let mode = S2Xv2Mode::from_u8(code);
+            assert_eq!((mode.name(), mode.to_string().as_str()), (name, name));
+        }
+        for (code, text) in [(0, "reserved(0x00)"), (6, "reserved(0x06)"), (255, "reserved(0xFF)")] {
+            let mode = S2Xv2Mode::Reserved(code);
+            assert_eq!((mode.name(), mode.to_string().as_str()), ("reserved", text));
+        }
     }
 }

@@ -93,6 +93,24 @@ impl Default for S2Xv2SatelliteDeliverySystem<'_> {
 }
 
 impl<'a> S2Xv2SatelliteDeliverySystem<'a> {
+    /// The tag of the extension descriptor of EN 300 468: the first byte of a descriptor that holds the body.
+    pub const TAG: u8 = 0x7F;
+    /// `descriptor_tag_extension` of this body: the third byte of that descriptor, behind its length.
+    pub const TAG_EXTENSION: u8 = 0x24;
+    /// The descriptor's name in capitals, as the crate dvb-si has it.
+    pub const NAME: &'static str = "S2XV2_SATELLITE_DELIVERY_SYSTEM";
+    /// The most bytes that a body may have, to be read or as it is written, with its tail. A larger one is refused as [`Refusal::Long`].
+    /// What one descriptor can carry is less: 254 bytes.
+    ///
+    /// ```
+    /// use s2xv2::{Refusal, S2Xv2SatelliteDeliverySystem};
+    ///
+    /// let mut buffer = [0; S2Xv2SatelliteDeliverySystem::MAX_LEN]; // room for any record
+    /// assert_eq!(S2Xv2SatelliteDeliverySystem::default().serialize_into(&mut buffer), Ok(18));
+    /// assert_eq!(buffer.len(), 4096);
+    /// ```
+    pub const MAX_LEN: usize = 4096;
+
     /// The record of a body, whose tail is a part of that body.
     ///
     /// ```
@@ -116,7 +134,7 @@ impl<'a> S2Xv2SatelliteDeliverySystem<'a> {
     pub fn parse(body: &'a [u8]) -> Result<Self, Refusal> {
         let parsed = ffi::parse(body);
         let (place, _) = accepted(&parsed.answer)?;
-        let tail = body.get(place..).ok_or(Refusal::Foreign)?;
+        let tail = body.get(place..).ok_or(Refusal::BadArchive)?;
         record_out(&parsed.body, tail)
     }
 
@@ -134,7 +152,7 @@ impl<'a> S2Xv2SatelliteDeliverySystem<'a> {
     /// ```
     ///
     /// # Errors
-    /// [`Refusal::Inconsistent`], [`Refusal::Long`] above 4,096 bytes, and [`Refusal::Foreign`] for more than 255 ids.
+    /// [`Refusal::TooManyIds`], then [`Refusal::Inconsistent`], then [`Refusal::Long`] above 4,096 bytes.
     pub fn serialized_len(&self) -> Result<usize, Refusal> {
         let (length, _) = accepted(&ffi::serialized_len(record_in(self, id_count(self)?), self.reserved_tail))?;
         Ok(length)

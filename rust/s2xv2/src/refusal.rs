@@ -1,7 +1,8 @@
 //! Why a call was refused.
 use core::fmt;
 
-/// Why a call was refused: document 01's refusals by their names, and one of the boundary's own.
+/// Why a call was refused: document 01's refusals by their names, and two of the boundary's own, [`Refusal::TooManyIds`] and
+/// [`Refusal::BadArchive`].
 ///
 /// It prints as a sentence that names the part or the field.
 ///
@@ -63,9 +64,14 @@ pub enum Refusal {
     },
     /// A step on a slot of another size than at begin, or of a job that no begin and steps could give.
     OtherSize,
-    /// A record with more than 255 ids, which cannot cross the boundary; or an answer that came back with numbers that the library's
-    /// contracts do not allow.
-    Foreign,
+    /// A record with more than 255 ids. Their count crosses the boundary in one byte, so it is refused before anything crosses.
+    TooManyIds {
+        /// How many ids the record has.
+        count: usize,
+    },
+    /// An answer with numbers that the library's contracts do not allow: what is linked is not the archive that this crate was made for. No
+    /// bytes, record, slot or job of the caller's lead to it.
+    BadArchive,
 }
 
 const PARTS: [&str; 9] = [
@@ -133,7 +139,8 @@ fn are(count: usize) -> &'static str {
 }
 
 impl Refusal {
-    /// Document 01's number of the refusal, from 1 to 8; 100 for [`Refusal::Foreign`].
+    /// The number of the refusal: document 01's, from 1 to 8. [`Refusal::TooManyIds`] has 100, as the C header has it for a record that
+    /// none of the library's could be. [`Refusal::BadArchive`] has 101, a number of this crate's own: no document has it, and no archive.
     #[must_use]
     pub const fn number(&self) -> u8 {
         match self {
@@ -145,7 +152,8 @@ impl Refusal {
             Self::Slot => 6,
             Self::NoFit { .. } => 7,
             Self::OtherSize => 8,
-            Self::Foreign => 100,
+            Self::TooManyIds { .. } => 100,
+            Self::BadArchive => 101,
         }
     }
 
@@ -158,7 +166,8 @@ impl Refusal {
             Self::Inconsistent { place } | Self::Field { place } => [place.into(), 0, 0],
             Self::Room { need, have } => [need, have, 0],
             Self::NoFit { size } => [size, 0, 0],
-            Self::Slot | Self::OtherSize | Self::Foreign => [0; 3],
+            Self::TooManyIds { count } => [count, 0, 0],
+            Self::Slot | Self::OtherSize | Self::BadArchive => [0; 3],
         }
     }
 }
@@ -185,7 +194,8 @@ impl fmt::Display for Refusal {
                 "a descriptor of {size} bytes is larger than the slot, or exactly one byte smaller"
             ),
             Self::OtherSize => f.write_str("the slot has another size than at begin, or no begin and steps could give the job"),
-            Self::Foreign => f.write_str("more than 255 ids cannot cross the boundary, or what came back is no answer of the library"),
+            Self::TooManyIds { count } => write!(f, "the record has {count} ids: 255 are the most that can cross the boundary"),
+            Self::BadArchive => f.write_str("the linked archive gave no answer that its contracts allow: it is not the one for this crate"),
         }
     }
 }
@@ -233,9 +243,24 @@ mod tests {
                 Refusal::NoFit { size: 21 },
                 "a descriptor of 21 bytes is larger than the slot, or exactly one byte smaller",
             ),
+            (
+                Refusal::TooManyIds { count: 256 },
+                "the record has 256 ids: 255 are the most that can cross the boundary",
+            ),
+            (
+                Refusal::BadArchive,
+                "the linked archive gave no answer that its contracts allow: it is not the one for this crate",
+            ),
         ] {
             assert_eq!(refusal.to_string(), sentence);
         }
+    }
+
+    #[test]
+    fn the_two_of_the_boundary_have_numbers_of_their_own() {
+        let ids = Refusal::TooManyIds { count: 300 };
+        assert_eq!((ids.number(), ids.told()), (100, [300, 0, 0]));
+        assert_eq!((Refusal::BadArchive.number(), Refusal::BadArchive.told()), (101, [0; 3]));
     }
 
     #[test]

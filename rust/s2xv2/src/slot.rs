@@ -24,7 +24,7 @@ pub fn read_slot(bytes: &[u8]) -> Result<Option<S2Xv2SatelliteDeliverySystem<'_>
     if place == 0 {
         return Ok(None);
     }
-    let tail = bytes.get(place..).and_then(|rest| rest.get(..length)).ok_or(Refusal::Foreign)?;
+    let tail = bytes.get(place..).and_then(|rest| rest.get(..length)).ok_or(Refusal::BadArchive)?;
     record_out(&read.body, tail).map(Some)
 }
 
@@ -38,6 +38,26 @@ pub struct Slot<'a> {
 }
 
 impl<'a> Slot<'a> {
+    /// The least size of a slot: a descriptor with the smallest body, of 18 bytes.
+    pub const MIN_SIZE: usize = 21;
+    /// The largest size of a slot: a descriptor whose length is 255.
+    pub const MAX_SIZE: usize = 257;
+    /// The tag of the stuffing descriptor of EN 300 468: the first byte of an empty slot, and of what fills a slot behind its descriptor.
+    ///
+    /// ```
+    /// use s2xv2::{S2Xv2SatelliteDeliverySystem, Slot};
+    ///
+    /// let mut bytes = [0; Slot::MIN_SIZE];
+    /// let mut slot = Slot::new(&mut bytes);
+    /// slot.make_empty().unwrap();
+    /// assert_eq!(slot.bytes()[0], Slot::STUFFING_TAG);
+    ///
+    /// let mut bytes = [0; Slot::MIN_SIZE];
+    /// bytes[..3].copy_from_slice(&[S2Xv2SatelliteDeliverySystem::TAG, 19, S2Xv2SatelliteDeliverySystem::TAG_EXTENSION]);
+    /// assert!(Slot::new(&mut bytes).read().unwrap().is_some());
+    /// ```
+    pub const STUFFING_TAG: u8 = 0x42;
+
     /// The slot on these bytes, as they are.
     pub fn new(bytes: &'a mut [u8]) -> Self {
         Self { bytes }

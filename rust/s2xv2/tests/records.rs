@@ -159,8 +159,8 @@ fn counts_of_ids() {
     }
     for count in [256, 257, 1000, 1 << 16] {
         record.secondary_delivery_system_ids = vec![7; count];
-        assert_eq!(record.serialized_len(), Err(Refusal::Foreign));
-        assert_untouched(&record, Refusal::Foreign);
+        assert_eq!(record.serialized_len(), Err(Refusal::TooManyIds { count }));
+        assert_untouched(&record, Refusal::TooManyIds { count });
     }
 }
 

@@ -106,7 +106,7 @@ fn begin_refuses_in_its_order() {
     let mut bad = [7; 64];
     assert_eq!(Job::begin(&Slot::new(&mut bad), &record), Err(Refusal::Slot));
     record.secondary_delivery_system_ids = vec![0; 256];
-    assert_eq!(Job::begin(&Slot::new(&mut bad), &record), Err(Refusal::Foreign));
+    assert_eq!(Job::begin(&Slot::new(&mut bad), &record), Err(Refusal::TooManyIds { count: 256 }));
 }
 
 /// The slot after a job of `record` on `start` was stepped by each allowance in turn.
