@@ -72,26 +72,7 @@ fn step_number(answer: StepAnswer) -> u8
     }
 }
 
-// `Job::step` of the library.
-#[no_mangle]
-pub extern "C" fn s2xv2_step(j: Job, s: &mut [u8], allowance: usize) -> FlatStepped
-    ensures told { λ r. ⌜ r ≡ steppedOut (stepOf j (length (now (s .entry))) allowance) ⌝ }
-    ensures left { λ _. ⌜ now (s .exit) ≡ slotAfter j (now (s .entry)) allowance ⌝ }
-{
-    let stepped = j.step(s, allowance);
-    let answer = stepped.answer;
-    let job = stepped.job;
-    FlatStepped {
-        job,
-        told: FlatAdvanced {
-            stores: stepped.stores,
-            number: step_number(answer),
-            done: bit_of(stepped.done),
-        },
-    }
-}
-
-// What a step in place learns: what it tells, and how many stores the job has made in all.
+// What a step learns: what it tells, and how many stores the job has made in all.
 struct FlatMoved {
     made: usize,
     stores: usize,
@@ -118,6 +99,28 @@ fn advanced(
         stores: moved.stores,
         number: step_number(answer),
         done: bit_of(moved.done),
+    }
+}
+
+// `Job::step` of the library: the staged bytes are lent on, so that the job is copied once.
+#[no_mangle]
+pub extern "C" fn s2xv2_step(j: Job, s: &mut [u8], allowance: usize) -> FlatStepped
+    ensures told { λ r. ⌜ r ≡ steppedOut (stepOf j (length (now (s .entry))) allowance) ⌝ }
+    ensures left { λ _. ⌜ now (s .exit) ≡ slotAfter j (now (s .entry)) allowance ⌝ }
+{
+    let n = j.slot_size;
+    let d = j.descriptor_size;
+    let k = j.stores_made;
+    let m = advanced(&j.staged, n, d, k, s, allowance);
+    let mut job = j;
+    job.stores_made = m.made;
+    FlatStepped {
+        job,
+        told: FlatAdvanced {
+            stores: m.stores,
+            number: m.number,
+            done: m.done,
+        },
     }
 }
 

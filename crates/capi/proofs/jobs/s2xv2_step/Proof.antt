@@ -1,28 +1,38 @@
--- `capi::jobs::s2xv2_step` meets its contract: what crosses is what `step` answers.
+-- `capi::jobs::s2xv2_step` meets its contract: what crosses is what `advanced` answers, and a step changes nothing of a job but the number of stores made.
 -- Assumes nothing.
-use mathlib.Core.Path.{ap}
-use Rattle.capi.specs.Job.{steppedOut}
+use mathlib.Core.Path.{_≡_, ap, _∙_}
+use lib.ListN.{length}
+use denote.Ref.{now}
+use Rattle.job.specs.declared.job.Job.{Job}
+use Rattle.job.specs.Job.{withMade}
+use Rattle.job.specs.Step.{stepOf}
+use Rattle.capi.specs.Job.{advancedOut}
+use Rattle.capi.specs.declared.jobs.FlatMoved.{FlatMoved}
+use Rattle.capi.specs.declared.jobs.FlatStepped.{FlatStepped}
+use Rattle.capi.proofs.Step.{step-keeps}
 use borrow.Author.Needs.{needs}
 use Rattle.capi.proofs.jobs.s2xv2_step.Statement.{statement}
 use Rattle.capi.proofs.jobs.s2xv2_step.Tie as tie
 
-step-requires : tie.Need-step-requires
-step-requires c κs = search needs
-
-step-number-requires : tie.Need-step-number-requires
-step-number-requires c κs = search needs
-
-bit-of-requires : tie.Need-bit-of-requires
-bit-of-requires c κs = search needs
+advanced-requires : tie.Need-advanced-requires
+advanced-requires c κs = search needs
 
 same-length : tie.Need-same-length
 same-length c = search needs
 
 returns : tie.Need-returns
 returns c =
-    let step = c .before .before .before .before .before .step in
-    (simp (c .before .step-number .ensures, c .bit-of .ensures .0) (ap steppedOut (step .ensures .0)), step .ensures .1)
+    let start = c .before .before .before .before .before .before in
+    let j = start .before .args .t1 in
+    let n = length (now (start .before .args .s)) in
+    let a = start .before .args .allowance in
+    let moved = c .before .before .advanced .ensures in
+    let made = ap {B = FlatStepped} (λ (m : FlatMoved). record {
+      job = withMade j (m .made);
+      told = record { stores = m .stores; number = m .number; done = m .done };
+    }) (moved .0) in
+    let kept = ap {B = FlatStepped} (λ (x : Job). record { job = x; told = advancedOut (stepOf j n a) }) (step-keeps j n a) in
+    (made ∙ kept, moved .1)
 
 pub s2xv2-step-spec : {M : Type 1} → statement M
-s2xv2-step-spec =
-    tie.close (tie.spec step-requires step-number-requires bit-of-requires same-length returns)
+s2xv2-step-spec = tie.close (tie.spec advanced-requires same-length returns)
