@@ -27,7 +27,7 @@ pub extern "C" fn s2xv2_parse(sel: &[u8]) -> FlatParsed
 pub extern "C" fn s2xv2_reserved_tail(sel: &[u8]) -> FlatPart
     ensures { λ r. ⌜ (r ≡ tailPart (now (sel .entry))) × (partIn r (now (sel .entry)) ≡ tailOf (now (sel .entry))) ⌝ }
 {
-    let answer = s2xv2_reader::parse(sel).answer;
+    let answer = s2xv2_reader::parse_answer(sel);
     match answer {
         Answer::Accepted(tail) => FlatPart {
             place: tail,

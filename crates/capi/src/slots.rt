@@ -61,7 +61,7 @@ fn slot_part(answer: SlotAnswer) -> FlatPart
 pub extern "C" fn s2xv2_slot_reserved_tail(s: &[u8]) -> FlatPart
     ensures { λ r. ⌜ (r ≡ slotPart (now (s .entry))) × (partIn r (now (s .entry)) ≡ shown (now (s .entry)) .tail) ⌝ }
 {
-    let answer = slot::read::read(s).answer;
+    let answer = slot::read::read_answer(s);
     slot_part(answer)
 }
 

@@ -1,6 +1,7 @@
 // Reads the body of an S2Xv2 satellite delivery system descriptor.
 ghost use mathlib.Core.Path.{_≡_};
-ghost use Rattle.s2xv2.specs.Read.{readOf, tailOf};
+ghost use Rattle.answers.specs.Answer.{told};
+ghost use Rattle.s2xv2.specs.Read.{readTold, readOf, tailOf};
 ghost use Rattle.s2xv2_reader.specs.Seen.{seen, flatSeen, flatRefused, answerIn};
 use answers::answer::Answer;
 use answers::answer::Refusal;
@@ -98,11 +99,26 @@ pub fn parse(sel: &[u8]) -> Parsed
     }
 }
 
+// What `parse` answers for the body `sel`, without the record.
+pub fn parse_answer(sel: &[u8]) -> Answer
+    ensures { λ r. ⌜ told r ≡ readTold (now (sel .entry)) ⌝ }
+{
+    let have = sel.len();
+    if 4096 < have {
+        return Answer::Refused(Refusal::Long {
+            length: saturated(have),
+        });
+    }
+    let k = present_in(sel);
+    let e = ends_of(sel, k);
+    missing(have, e)
+}
+
 // The tail of the body `sel`: all that is left behind its parts. Nothing of a body that `parse` refuses.
 pub fn reserved_tail(sel: &[u8]) -> &[u8]
     ensures { λ r. ⌜ now r ≡ tailOf (now (sel .entry)) ⌝ }
 {
-    let answer = parse(sel).answer;
+    let answer = parse_answer(sel);
     match answer {
         Answer::Accepted(tail) => &sel[tail..],
         Answer::Refused(_) => &sel[..0],

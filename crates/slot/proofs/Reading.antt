@@ -9,7 +9,8 @@ use lib.ListN.{length, take, drop, length-take, length-drop}
 use Rattle.answers.proofs.Answers.{refused-number}
 use Rattle.answers.specs.declared.answer.Refusal.{Refusal}
 use Rattle.answers.specs.Answer.{numbers, told}
-use Rattle.s2xv2.specs.Read.{Reading, readOf, tailOf}
+use Rattle.answers.specs.declared.answer.Answer.{Answer}
+use Rattle.s2xv2.specs.Read.{Reading, readTold, readOf, tailOf}
 use Rattle.s2xv2.proofs.Reach.{accepted-tail}
 use Rattle.s2xv2_reader.specs.Seen.{seen}
 use Rattle.s2xv2_reader.specs.declared.Parsed.{Parsed}
@@ -37,6 +38,21 @@ pub placed-refused : (size : ℕ) (why : Refusal) → numbers why ≡ placed siz
 placed-refused size why = rw (refused-number why)
 
 -- ---- a slot that holds a body
+
+-- what is answered for it, without the record
+module _ (s b : List ℕ) (a : Answer) (f : goodForm s ≡ true) (t : byteAt s 0 ≡ stuffingTag → ⊥) (e : b ≡ bodyIn s) (q : told a ≡ readTold b) where
+  pub told-within-body : (n : ℕ) → 0 ∷ n ∷ [] ≡ told a → n ≤ length b
+  told-within-body n h = accepted-tail b n (h ∙ q) .1
+
+  pub answers-body : (x : SlotAnswer) → slotTold x ≡ placed (length b) (told a) → slotTold x ≡ shown s .reading .told
+  unfolding showsBody
+  answers-body x h =
+      h
+      ∙ ap (placed (length b)) q
+      ∙ ap (λ (body : List ℕ). showsBody body .reading .told) e
+      ∙ sym (ap (λ (y : Shown). y .reading .told) (shown-body s f t))
+
+-- .. and with it
 module _ (s b : List ℕ) (p : Parsed) (f : goodForm s ≡ true) (t : byteAt s 0 ≡ stuffingTag → ⊥) (e : b ≡ bodyIn s) where
   pub place-within : seen p ≡ readOf b → (n : ℕ) → 0 ∷ n ∷ [] ≡ told (p .answer) → n ≤ length b
   place-within q n h = accepted-tail b n (h ∙ ap (λ (x : Reading). x .told) q) .1

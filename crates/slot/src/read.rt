@@ -71,6 +71,20 @@ pub fn read(slot: &[u8]) -> SlotRead
     without(SlotAnswer::Refused(Refusal::Slot))
 }
 
+// What `read` answers, without the record.
+pub fn read_answer(slot: &[u8]) -> SlotAnswer
+    ensures { λ r. ⌜ slotTold r ≡ shown (now (slot .entry)) .reading .told ⌝ }
+{
+    if in_form(slot) {
+        if slot[0] == STUFFING_TAG {
+            return SlotAnswer::Empty;
+        }
+        let body = body_in(slot);
+        return in_slot(s2xv2_reader::parse_answer(body), body.len());
+    }
+    SlotAnswer::Refused(Refusal::Slot)
+}
+
 // The tail of the record that the slot holds, as a part of the slot: the empty part where it holds none.
 pub fn reserved_tail(slot: &[u8]) -> &[u8]
     ensures { λ r. ⌜ now r ≡ shown (now (slot .entry)) .tail ⌝ }
