@@ -103,15 +103,14 @@ pub fn parse(sel: &[u8]) -> Parsed
 pub fn parse_answer(sel: &[u8]) -> Answer
     ensures { λ r. ⌜ told r ≡ readTold (now (sel .entry)) ⌝ }
 {
-    let have = sel.len();
-    if 4096 < have {
+    if 4096 < sel.len() {
         return Answer::Refused(Refusal::Long {
-            length: saturated(have),
+            length: saturated(sel.len()),
         });
     }
     let k = present_in(sel);
     let e = ends_of(sel, k);
-    missing(have, e)
+    missing(sel.len(), e)
 }
 
 // The tail of the body `sel`: all that is left behind its parts. Nothing of a body that `parse` refuses.
