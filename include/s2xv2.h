@@ -1,11 +1,14 @@
-/* Reads, measures and writes the body of an S2Xv2 satellite delivery system descriptor (ETSI EN 300 468, 6.4.6.5.3), and replaces the descriptor in a slot of a live
-   loop by single-byte stores with a place to stop between any two, from C11 or C++.
+/* Reads, measures and writes the body of an S2Xv2 satellite delivery system descriptor (ETSI EN 300 468,
+   6.4.6.5.3), and replaces the descriptor in a slot of a live loop by single-byte stores with a place to stop
+   between any two, from C11 or C++.
 
-   Every call takes any bytes, record, slot or job, and refuses the bad ones by number; none traps, and a refused call stores nothing. docs/ANSWERS.md has every
-   number, what it tells and when it is given. A pointer whose length is 0 may be null. A length may be any number: a body or a tail above 4,096 bytes, and a slot
-   below 21 or above 257, are refused before a byte of them is looked at. What remains the caller's duty: that as many bytes as a smaller length says are there, that a
-   job lent by pointer is not null, and that what a call may write (a buffer, a slot, a job) overlaps nothing else that is lent to it. Nothing that is lent is kept.
-   Link with libcapi.a, which `rt staticlib capi` writes for x86-64 Linux. */
+   Every call takes any bytes, record, slot or job, and refuses the bad ones by number; none traps, and a refused
+   call stores nothing. docs/ANSWERS.md has every number, what it tells and when it is given. A pointer whose length
+   is 0 may be null. A length may be any number: a body or a tail above 4,096 bytes, and a slot below 21 or above
+   257, are refused before a byte of them is looked at. What remains the caller's duty: that as many bytes as a
+   smaller length says are there, that a job lent by pointer is not null, and that what a call may write (a buffer,
+   a slot, a job) overlaps nothing else that is lent to it. Nothing that is lent is kept. Link with libcapi.a, which
+   `rt staticlib capi` writes for x86-64 Linux. */
 #ifndef S2XV2_H
 #define S2XV2_H
 
@@ -27,7 +30,8 @@ enum {
     S2XV2_SLOT = 6,         /* the slot is not in good form */
     S2XV2_NO_FIT = 7,       /* first: the descriptor's size, which is larger than the slot's or exactly one smaller */
     S2XV2_OTHER_SIZE = 8,   /* the slot's size is not the job's, or no begin and steps could give the job's numbers */
-    S2XV2_FOREIGN = 100     /* a record that none of the library's could be: a flag that is looked at is above 1, or a code is 6 or more without mode_is_reserved */
+    S2XV2_FOREIGN = 100     /* no record: a flag that is looked at is above 1, or a code is 6 or more without
+                               mode_is_reserved */
 };
 
 typedef struct {
@@ -37,8 +41,9 @@ typedef struct {
     size_t third;
 } S2xv2Answer;
 
-/* A flag is a byte, 0 or 1. A number, a selector or a block that may be absent has a flag `has_` beside it: where that is 0 it comes back as 0, and is not looked at when it is sent,
-   whatever it holds, nor is any flag inside such a block. A record that is cleared to zeros and then filled has no flag that is neither. */
+/* A flag is a byte, 0 or 1. A number, a selector or a block that may be absent has a flag `has_` beside it: where
+   that is 0 it comes back as 0, and is not looked at when it is sent, whatever it holds, nor is any flag inside
+   such a block. A record that is cleared to zeros and then filled has no flag that is neither. */
 typedef struct {
     uint32_t reference_scrambling_index;
     uint32_t payload_scrambling_index;
@@ -100,8 +105,8 @@ typedef struct {
     size_t length;
 } S2xv2Part;
 
-/* A job is a value: it may be kept, copied and dropped at any time. The descriptor to be stored with 0 after it, both sizes in bytes, and how many of the slot's
-   size + 2 stores are made. */
+/* A job is a value: it may be kept, copied and dropped at any time. The descriptor to be stored with 0 after it,
+   both sizes in bytes, and how many of the slot's size + 2 stores are made. */
 typedef struct {
     uint8_t staged[257];
     size_t slot_size;
@@ -126,7 +131,8 @@ typedef struct {
     S2xv2Advanced told;
 } S2xv2Stepped;
 
-/* The record of a body. Accepted tells where the tail starts, which goes to the body's end. Refuses with 2 and 1, and shows a record of zeros then. */
+/* The record of a body. Accepted tells where the tail starts, which goes to the body's end. Refuses with 2 and 1,
+   and shows a record of zeros then. */
 S2xv2Parsed s2xv2_parse(const uint8_t *body, size_t length);
 
 /* The tail of a body. Of a body that s2xv2_parse refuses, the part of 0 bytes at place 0. */
@@ -135,25 +141,28 @@ S2xv2Part s2xv2_reserved_tail(const uint8_t *body, size_t length);
 /* How many bytes a record takes with a tail. Accepted tells the length. Refuses with 100, 3 and 2. */
 S2xv2Answer s2xv2_serialized_len(S2xv2Record record, const uint8_t *tail, size_t tail_length);
 
-/* Writes a record and its tail to the start of a buffer, and keeps the bytes behind them. Accepted tells the length. Refuses with 100, 3, 2, 5 and 4, and stores
-   nothing then. */
+/* Writes a record and its tail to the start of a buffer, and keeps the bytes behind them. Accepted tells the
+   length. Refuses with 100, 3, 2, 5 and 4, and stores nothing then. */
 S2xv2Answer s2xv2_serialize_into(S2xv2Record record, const uint8_t *tail, size_t tail_length, uint8_t *buffer, size_t buffer_length);
 
-/* What a slot holds. Accepted tells where the tail starts, from the slot's start, and how many bytes it has; an empty slot is accepted with 0 and 0, and shows a record
-   of zeros. Refuses with 6 a slot that is not in good form, and with 1 what s2xv2_parse refuses. */
+/* What a slot holds. Accepted tells where the tail starts, from the slot's start, and how many bytes it has; an
+   empty slot is accepted with 0 and 0, and shows a record of zeros. Refuses with 6 a slot that is not in good form,
+   and with 1 what s2xv2_parse refuses. */
 S2xv2Parsed s2xv2_slot_read(const uint8_t *slot, size_t size);
 
 /* The tail of the record that a slot holds. Of a slot that holds none, the part of 0 bytes at place 0. */
 S2xv2Part s2xv2_slot_reserved_tail(const uint8_t *slot, size_t size);
 
-/* Makes a slot that is not in use empty, whatever it holds. Refuses with 6 a size below 21 or above 257, and stores nothing then. */
+/* Makes a slot that is not in use empty, whatever it holds. Refuses with 6 a size below 21 or above 257, and stores
+   nothing then. */
 S2xv2Answer s2xv2_slot_make_empty(uint8_t *slot, size_t size);
 
-/* A job that stores a record and its tail in a slot. Stores nothing. Accepted tells how many stores the job makes. Refuses with 100, 6, 3, 2, 7 and 4, and gives a job
-   of zeros then, which a step refuses. */
+/* A job that stores a record and its tail in a slot. Stores nothing. Accepted tells how many stores the job makes.
+   Refuses with 100, 6, 3, 2, 7 and 4, and gives a job of zeros then, which a step refuses. */
 S2xv2Begun s2xv2_begin(const uint8_t *slot, size_t size, S2xv2Record record, const uint8_t *tail, size_t tail_length);
 
-/* Makes the smaller of the allowance and the stores left, and gives back the job. Refuses with 8: then it stores nothing, and the job comes back as it came. */
+/* Makes the smaller of the allowance and the stores left, and gives back the job. Refuses with 8: then it stores
+   nothing, and the job comes back as it came. */
 S2xv2Stepped s2xv2_step(S2xv2Job job, uint8_t *slot, size_t size, size_t allowance);
 
 /* The same for a job where it stands, which must not be null. A refused step leaves the job as it was. */
