@@ -51,9 +51,10 @@ refused-requires-2 c κs = search needs
 returns : tie.Need-returns
 unfolding beginOf
 returns c =
-    let a = c .before .before .before .before .before .before .before .before .before .args in
+    let start = c .before .before .before .before .before .before in
+    let a = start .before .before .before .args in
     let l = length-accepted _ _ _ (sym (ap told (c .before .before .answer .given .1)) ∙ c .before .before .before .before .serialized-len .ensures) in
-    c .fit .ensures ∙ ap (λ (t : List ℕ). answered t (length (now (a .slot))) (a .r) (now (a .reserved-tail))) (told-fit (now (a .slot)) _ _ (sym (c .before .before .before .before .before .before .in-form .ensures) ∙ c .before .before .before .before .before .if1 .taken) (l .0) (l .1 .0))
+    c .fit .ensures ∙ ap (λ (t : List ℕ). answered t (length (now (a .slot))) (a .r) (now (a .reserved-tail))) (told-fit (now (a .slot)) _ _ (sym (start .in-form .ensures) ∙ c .before .before .before .before .before .if1 .taken) (l .0) (l .1 .0))
 
 returns-2 : tie.Need-returns-2
 unfolding beginOf

@@ -44,15 +44,17 @@ unwritable-requires c κs = search needs
 
 returns-3 : tie.Need-returns-3
 returns-3 c =
-    let a = c .before .before .before .before .before .before .before .before .before .args in
-    let e = sym (ap told (c .before .before .before .before .before .measured .given .1)) ∙ c .before .before .before .before .before .before .before .judged-len .ensures in
+    let start = c .before .before .before .before .before .before .before in
+    let a = start .before .before .args in
+    let e = sym (ap told (c .before .before .before .before .before .measured .given .1)) ∙ start .judged-len .ensures in
     let u = c .before .unwritable .ensures ∙ ap unwritable (c .before .before .record-in .ensures) in
     judged-field (meant (a .c)) (now (a .tail)) _ (a .room) e (c .before .before .before .if1 .left) _ u (omega (arith, c .if2 .taken))
 
 returns-4 : tie.Need-returns-4
 returns-4 c =
-    let a = c .before .before .before .before .before .before .before .before .before .args in
-    let e = sym (ap told (c .before .before .before .before .before .measured .given .1)) ∙ c .before .before .before .before .before .before .before .judged-len .ensures in
+    let start = c .before .before .before .before .before .before .before in
+    let a = start .before .before .args in
+    let e = sym (ap told (c .before .before .before .before .before .measured .given .1)) ∙ start .judged-len .ensures in
     let u = c .before .unwritable .ensures ∙ ap unwritable (c .before .before .record-in .ensures) in
     judged-written (meant (a .c)) (now (a .tail)) _ (a .room) e (c .before .before .before .if1 .left) (sym u ∙ c .if2 .left)
 

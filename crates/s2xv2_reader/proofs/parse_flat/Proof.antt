@@ -48,12 +48,13 @@ refused-requires-3 c κs = search needs
 returns-3 : tie.Need-returns-3
 unfolding bodySize
 returns-3 c =
+    let start = c .before .before .before .before .before .before in
     let present-in = c .before .before .before .before .present-in in
     let ends-of = c .before .before .before .ends-of in
-    let s = now (c .before .before .before .before .before .before .before .before .args .sel) in
+    let s = now (start .before .before .args .sel) in
     let e = simp (ends-of .ensures, present-in .ensures) at (c .before .missing .ensures) in
     let h = rw (ends-of .ensures, present-in .ensures) at (c .before .before .if3 .taken) in
-    let d : told (c .before .missing .result) ≡ readTold s = _∙_ {b = shortTold (length s) (parts s (presentIn s)) (0 ∷ bodySize s ∷ [])} e (sym (told-within s (c .before .before .before .before .before .before .if1 .left))) in
+    let d : told (c .before .missing .result) ≡ readTold s = _∙_ {b = shortTold (length s) (parts s (presentIn s)) (0 ∷ bodySize s ∷ [])} e (sym (told-within s (start .if1 .left))) in
     c .refused3 .ensures ∙ simp d (sym (ap flatSeen (reads-short s h)))
 
 answer-of-requires : tie.Need-answer-of-requires
@@ -65,9 +66,10 @@ record-at-requires c κs = (c .before .before .ends-of .ensures, c .before .if3 
 returns-4 : tie.Need-returns-4
 unfolding bodySize
 returns-4 c =
+    let start = c .before .before .before .before .before .before in
     let present-in = c .before .before .before .before .present-in in
     let ends-of = c .before .before .before .ends-of in
-    let s = now (c .before .before .before .before .before .before .before .before .args .sel) in
+    let s = now (start .before .before .args .sel) in
     let h = rw (ends-of .ensures, present-in .ensures) at (c .before .before .if3 .left) in
     simp (
       c .record-at .ensures,
@@ -75,7 +77,7 @@ returns-4 c =
       ends-of .ensures,
       present-in .ensures,
     )
-    (sym (ap flatSeen (reads-accepted s h (c .before .before .before .before .before .before .if1 .left))))
+    (sym (ap flatSeen (reads-accepted s h (start .if1 .left))))
 
 pub parse-flat-spec : {M : Type 1} → statement M
 parse-flat-spec =

@@ -29,12 +29,13 @@ same-length c = search needs
 
 returns : tie.Need-returns
 returns c =
-    let a = c .before .before .before .before .before .before .before .before .before .args in
+    let start = c .before .before .before .before .before .before in
+    let a = start .before .before .before .args in
     let r = meant (a .c) in
     let t = now (a .reserved-tail) in
-    let w = accepted-flat (a .c) t (length (now (a .buf))) (rw (c .before .before .before .before .before .before .write-answer-flat .ensures) at (c .before .before .before .before .if1 .taken)) in
+    let w = accepted-flat (a .c) t (length (now (a .buf))) (rw (start .write-answer-flat .ensures) at (c .before .before .before .before .if1 .taken)) in
     let e = told-written r t (w .1 .consistent) (w .1 .within) (length (now (a .buf))) (w .1 .fits) (w .1 .carried) in
-    (c .before .before .before .before .before .before .write-answer-flat .ensures, c .before .before .put-all .ensures ∙ simp (w .0) (sym (written-accepted r t (now (a .buf)) _ (sym e))))
+    (start .write-answer-flat .ensures, c .before .before .put-all .ensures ∙ simp (w .0) (sym (written-accepted r t (now (a .buf)) _ (sym e))))
 
 returns-2 : tie.Need-returns-2
 returns-2 c =

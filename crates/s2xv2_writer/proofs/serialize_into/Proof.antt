@@ -44,8 +44,9 @@ same-length c = search needs
 
 returns : tie.Need-returns
 returns c =
-    let write-answer = c .before .before .before .before .before .before .before .write-answer in
-    let a = c .before .before .before .before .before .before .before .before .before .before .args in
+    let start = c .before .before .before .before .before .before .before in
+    let write-answer = start .write-answer in
+    let a = start .before .before .before .args in
     let t = now (a .reserved-tail) in
     let e = ap meant (c .before .before .before .record-out .ensures) ∙ back (a .r) in
     let w = written-accepted (a .r) t (now (a .buf)) _ (sym (ap told (c .before .before .before .before .before .enum-told .given .1)) ∙ write-answer .ensures) in

@@ -39,9 +39,10 @@ same-length c = search needs
 
 returns : tie.Need-returns
 returns c =
-    let a = c .before .before .before .before .before .before .before .before .before .args in
+    let start = c .before .before .before .before .before .before in
+    let a = start .before .before .before .args in
     let j = jobOf (now (a .staged)) (a .n) (a .d) (a .k) in
-    let f = sym (fair-bare (now (a .staged)) _ _ _ _) ∙ sym (c .before .before .before .before .before .before .before .is-fair .ensures) ∙ c .before .before .before .before .before .before .if1 .taken in
+    let f = sym (fair-bare (now (a .staged)) _ _ _ _) ∙ sym (start .before .is-fair .ensures) ∙ start .if1 .taken in
     let k = c .before .before .before .before .before .smaller .ensures in
     (ap (movedSeen j) (c .accepted .ensures) ∙ A.accepted j (now (a .slot)) (a .allowance) f k, A.accepted-slot j (now (a .slot)) (a .allowance) f k (c .before .before .before .make-stores .ensures))
 

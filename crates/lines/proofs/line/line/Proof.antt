@@ -24,7 +24,8 @@ same-length c = search needs
 returns : tie.Need-returns
 unfolding lineOf
 returns c =
-    then4 (c .before .before .before .before .before .before .before .before .before .before .before .before .before .before .copy .ensures) (c .before .before .before .before .before .before .before .before .before .before .put .ensures) (c .before .before .before .before .before .before .decimal .ensures) (c .before .before .put2 .ensures)
+    let start = c .before .before .before .before .before .before in
+    then4 (start .before .before .before .before .before .before .before .before .copy .ensures) (start .before .before .before .before .put .ensures) (start .decimal .ensures) (c .before .before .put2 .ensures)
 
 pub line-spec : {M : Type 1} → statement M
 line-spec =

@@ -39,8 +39,9 @@ loop-less c = search needs
 
 loop-again : tie.Need-loop-again Inv-loop μ-loop
 loop-again c =
-    let l = c .before .before .before .before .before .before .loop in
-    let ns = c .before .before .before .before .before .before .before .before .before .args .numbers .now in
+    let start = c .before .before .before .before .before .before in
+    let l = start .loop in
+    let ns = start .before .before .before .args .numbers .now in
     let h : l .i < length ns = search needs in
     (search needs, search needs, rw (add-one, take-suc ns (l .i) 0, words-more, write-append) (cc (c .before .before .word .ensures .is)))
 

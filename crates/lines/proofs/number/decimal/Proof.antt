@@ -30,7 +30,8 @@ same-length c = search needs
 returns : tie.Need-returns
 unfolding decimalOf
 returns c =
-    then4 (c .before .before .before .before .before .before .before .before .before .before .before .before .before .before .three .ensures) (c .before .before .before .before .before .before .before .before .before .before .three2 .ensures) (c .before .before .before .before .before .before .three3 .ensures) (c .before .before .put .ensures)
+    let start = c .before .before .before .before .before .before in
+    then4 (start .before .before .before .before .before .before .before .before .three .ensures) (start .before .before .before .before .three2 .ensures) (start .three3 .ensures) (c .before .before .put .ensures)
 
 pub decimal-spec : {M : Type 1} → statement M
 decimal-spec =

@@ -20,7 +20,9 @@ same-length c = search needs
 
 returns : tie.Need-returns
 unfolding threeOf
-returns c = then3 (c .before .before .before .before .before .before .before .before .before .before .digit .ensures) (c .before .before .before .before .before .before .digit2 .ensures) (c .before .before .digit3 .ensures)
+returns c =
+    let start = c .before .before .before .before .before .before in
+    then3 (start .before .before .before .before .digit .ensures) (start .digit2 .ensures) (c .before .before .digit3 .ensures)
 
 pub three-spec : {M : Type 1} → statement M
 three-spec =

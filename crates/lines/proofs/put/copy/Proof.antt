@@ -35,8 +35,9 @@ loop-less c = search needs
 
 loop-again : tie.Need-loop-again Inv-loop μ-loop
 loop-again c =
-    let l = c .before .before .before .before .before .before .loop in
-    let text = c .before .before .before .before .before .before .before .before .before .args .text .now in
+    let start = c .before .before .before .before .before .before in
+    let l = start .loop in
+    let text = start .before .before .before .args .text .now in
     let h : l .i < length text = search needs in
     (search needs, search needs, rw (add-one, take-suc text (l .i) 0, write-append) (cc (c .before .before .put .ensures .is)))
 

@@ -33,9 +33,10 @@ same-length c = search needs
 returns : tie.Need-returns
 unfolding coreLines
 returns c =
-    then4 (c .before .before .before .before .before .before .before .before .before .before .before .before .before .before .before .before .line8 .ensures)
-    (c .before .before .before .before .before .before .before .before .before .before .before .line82 .ensures)
-    (c .before .before .before .before .before .before .before .top .ensures)
+    let start = c .before .before .before .before .before .before .before in
+    then4 (start .before .before .before .before .before .before .before .before .before .line8 .ensures)
+    (start .before .before .before .before .line82 .ensures)
+    (start .top .ensures)
     (c .before .before .line83 .ensures)
 
 pub bond-spec : {M : Type 1} → statement M

@@ -36,9 +36,10 @@ same-length c = search needs
 returns : tie.Need-returns
 unfolding coreLines
 returns c =
-    then4 (c .before .before .before .before .before .before .before .before .before .before .before .before .before .before .before .before .before .line8 .ensures)
-    (c .before .before .before .before .before .before .before .before .before .before .before .before .line32 .ensures)
-    (c .before .before .before .before .before .before .before .line322 .ensures)
+    let start = c .before .before .before .before .before .before .before in
+    then4 (start .before .before .before .before .before .before .before .before .before .before .line8 .ensures)
+    (start .before .before .before .before .before .line32 .ensures)
+    (start .line322 .ensures)
     (c .before .before .line323 .ensures)
 
 pub carrier-spec : {M : Type 1} → statement M

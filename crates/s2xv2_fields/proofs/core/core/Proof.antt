@@ -24,9 +24,10 @@ same-length c = search needs
 returns : tie.Need-returns
 unfolding coreText coreLines
 returns c =
-    and-then _ _ (c .before .before .before .before .before .before .before .before .before .before .before .before .before .before .start .ensures)
-    (and-then _ _ (c .before .before .before .before .before .before .before .before .before .before .flags .ensures)
-    (and-then _ _ (c .before .before .before .before .before .before .bond .ensures)
+    let start = c .before .before .before .before .before .before in
+    and-then _ _ (start .before .before .before .before .before .before .before .before .start .ensures)
+    (and-then _ _ (start .before .before .before .before .flags .ensures)
+    (and-then _ _ (start .bond .ensures)
     (c .before .before .carrier .ensures)))
 
 pub core-spec : {M : Type 1} → statement M

@@ -36,9 +36,10 @@ same-length c = search needs
 returns : tie.Need-returns
 unfolding coreLines
 returns c =
-    then4 (c .before .before .before .before .before .before .before .before .before .before .before .before .before .before .before .before .before .line8 .ensures)
-    (c .before .before .before .before .before .before .before .before .before .before .before .before .line82 .ensures)
-    (c .before .before .before .before .before .before .before .flag .ensures)
+    let start = c .before .before .before .before .before .before .before in
+    then4 (start .before .before .before .before .before .before .before .before .before .before .line8 .ensures)
+    (start .before .before .before .before .before .line82 .ensures)
+    (start .flag .ensures)
     (c .before .before .flag2 .ensures)
 
 pub flags-spec : {M : Type 1} → statement M

@@ -33,9 +33,10 @@ same-length c = search needs
 returns : tie.Need-returns
 unfolding coreLines
 returns c =
-    then4 (c .before .before .before .before .before .before .before .before .before .before .before .before .before .before .before .before .line .ensures)
-    (c .before .before .before .before .before .before .before .before .before .before .before .line32 .ensures)
-    (c .before .before .before .before .before .before .before .mode .ensures)
+    let start = c .before .before .before .before .before .before .before in
+    then4 (start .before .before .before .before .before .before .before .before .before .line .ensures)
+    (start .before .before .before .before .line32 .ensures)
+    (start .mode .ensures)
     (c .before .before .flag .ensures)
 
 pub start-spec : {M : Type 1} → statement M

@@ -29,9 +29,10 @@ same-length c = search needs
 returns-2 : tie.Need-returns-2
 unfolding bondsOf
 returns-2 c =
-    rw (ne-eqb _ _ (c .before .before .before .before .before .before .before .before .before .before .before .before .before .if1 .left))
-    (then3 (c .before .before .before .before .before .before .before .before .before .before .line8 .ensures)
-    (c .before .before .before .before .before .before .id .ensures)
+    let start = c .before .before .before .before .before .before in
+    rw (ne-eqb _ _ (start .before .before .before .before .before .before .before .if1 .left))
+    (then3 (start .before .before .before .before .line8 .ensures)
+    (start .id .ensures)
     (c .before .before .second .ensures))
 
 pub bonds-spec : {M : Type 1} → statement M

@@ -36,9 +36,10 @@ same-length c = search needs
 returns : tie.Need-returns
 unfolding partsText
 returns c =
-    then4 (c .before .before .before .before .before .before .before .before .before .before .before .before .before .before .before .part .ensures)
-    (c .before .before .before .before .before .before .before .before .before .before .before .scrambling .ensures)
-    (c .before .before .before .before .before .before .part2 .ensures)
+    let start = c .before .before .before .before .before .before in
+    then4 (start .before .before .before .before .before .before .before .before .before .part .ensures)
+    (start .before .before .before .before .before .scrambling .ensures)
+    (start .part2 .ensures)
     (c .before .before .bonds .ensures)
 
 pub parts-spec : {M : Type 1} → statement M

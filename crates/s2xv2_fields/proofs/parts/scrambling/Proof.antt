@@ -30,8 +30,9 @@ same-length c = search needs
 returns : tie.Need-returns
 unfolding scramblingOf
 returns c =
-    rw (c .before .before .before .before .before .before .before .before .before .before .before .index .given .1)
-    (then2 (c .before .before .before .before .before .before .before .line8 .ensures)
+    let start = c .before .before .before .before .before .before .before in
+    rw (start .before .before .before .before .index .given .1)
+    (then2 (start .line8 .ensures)
     (c .before .before .line32 .ensures))
 
 returns-2 : tie.Need-returns-2

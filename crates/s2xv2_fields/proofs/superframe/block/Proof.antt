@@ -21,8 +21,9 @@ same-length c = search needs
 returns : tie.Need-returns
 unfolding blockLines
 returns c =
-    and-then _ _ (c .before .before .before .before .before .before .before .before .before .before .block-start .ensures)
-    (and-then _ _ (c .before .before .before .before .before .before .block-middle .ensures)
+    let start = c .before .before .before .before .before .before in
+    and-then _ _ (start .before .before .before .before .block-start .ensures)
+    (and-then _ _ (start .block-middle .ensures)
     (c .before .before .block-end .ensures))
 
 pub block-spec : {M : Type 1} → statement M

@@ -33,9 +33,10 @@ same-length c = search needs
 returns : tie.Need-returns
 unfolding blockLines
 returns c =
-    then4 (c .before .before .before .before .before .before .before .before .before .before .before .before .before .before .before .before .line32 .ensures)
-    (c .before .before .before .before .before .before .before .before .before .before .before .before .nibble .ensures)
-    (c .before .before .before .before .before .before .before .line322 .ensures)
+    let start = c .before .before .before .before .before .before .before in
+    then4 (start .before .before .before .before .before .before .before .before .before .line32 .ensures)
+    (start .before .before .before .before .before .nibble .ensures)
+    (start .line322 .ensures)
     (c .before .before .plan .ensures)
 
 pub block-middle-spec : {M : Type 1} → statement M

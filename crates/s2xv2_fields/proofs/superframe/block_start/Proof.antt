@@ -36,9 +36,10 @@ same-length c = search needs
 returns : tie.Need-returns
 unfolding blockLines
 returns c =
-    then4 (c .before .before .before .before .before .before .before .before .before .before .before .before .before .before .before .before .before .line8 .ensures)
-    (c .before .before .before .before .before .before .before .before .before .before .before .before .flag .ensures)
-    (c .before .before .before .before .before .before .before .flag2 .ensures)
+    let start = c .before .before .before .before .before .before .before in
+    then4 (start .before .before .before .before .before .before .before .before .before .before .line8 .ensures)
+    (start .before .before .before .before .before .flag .ensures)
+    (start .flag2 .ensures)
     (c .before .before .line82 .ensures)
 
 pub block-start-spec : {M : Type 1} → statement M

@@ -32,15 +32,16 @@ bit-of-requires-4 c κs = search needs
 returns : tie.Need-returns
 unfolding defaultRecord
 returns c =
+    let start = c .before .before .before .before .before .before in
     simp (
       c .before .before .bit-of4 .ensures .0,
       c .before .before .before .is-set .ensures,
       c .before .before .before .before .has-bool .ensures,
       c .before .before .before .before .before .bit-of3 .ensures .0,
-      c .before .before .before .before .before .before .bit-of2 .ensures .0,
-      c .before .before .before .before .before .before .before .bit-of .ensures .0,
-      c .before .before .before .before .before .before .before .before .to-u8 .ensures,
-      c .before .before .before .before .before .before .before .before .before .is-reserved .ensures,
+      start .bit-of2 .ensures .0,
+      start .before .bit-of .ensures .0,
+      start .before .before .to-u8 .ensures,
+      start .before .before .before .is-reserved .ensures,
     )
 
 pub core-out-spec : {M : Type 1} → statement M

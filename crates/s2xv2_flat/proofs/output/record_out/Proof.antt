@@ -33,6 +33,7 @@ core-out-requires c κs = search needs
 
 returns : tie.Need-returns
 returns c =
+    let start = c .before .before .before .before .before .before in
     simp (
       c .core-out .ensures,
       c .before .has-superframe .ensures,
@@ -40,9 +41,9 @@ returns c =
       c .before .before .before .has-u82 .ensures,
       c .before .before .before .before .has-u32 .ensures,
       c .before .before .before .before .before .or-zero2 .ensures,
-      c .before .before .before .before .before .before .has-u8 .ensures,
-      c .before .before .before .before .before .before .before .superframe-out .ensures,
-      c .before .before .before .before .before .before .before .before .or-zero .ensures,
+      start .has-u8 .ensures,
+      start .before .superframe-out .ensures,
+      start .before .before .or-zero .ensures,
     )
 
 pub record-out-spec : {M : Type 1} → statement M

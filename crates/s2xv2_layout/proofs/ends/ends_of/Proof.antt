@@ -78,6 +78,7 @@ add-t20 c = search needs
 
 returns : tie.Need-returns
 returns c =
+    let start = c .before .before .before .before .before .before in
     simp (
       c .only9 .ensures .0,
       c .before .superframe-size .ensures .0,
@@ -85,14 +86,14 @@ returns c =
       c .before .before .before .plan-size .ensures .0,
       c .before .before .before .before .only7 .ensures .0,
       c .before .before .before .before .before .only6 .ensures .0,
-      c .before .before .before .before .before .before .only5 .ensures .0,
-      c .before .before .before .before .before .before .before .flag-at2 .ensures,
-      c .before .before .before .before .before .before .before .before .only4 .ensures .0,
-      c .before .before .before .before .before .before .before .before .before .bond-size .ensures .0,
-      c .before .before .before .before .before .before .before .before .before .before .flag-at .ensures,
-      c .before .before .before .before .before .before .before .before .before .before .before .only3 .ensures .0,
-      c .before .before .before .before .before .before .before .before .before .before .before .before .only2 .ensures .0,
-      c .before .before .before .before .before .before .before .before .before .before .before .before .before .only .ensures .0,
+      start .only5 .ensures .0,
+      start .before .flag-at2 .ensures,
+      start .before .before .only4 .ensures .0,
+      start .before .before .before .bond-size .ensures .0,
+      start .before .before .before .before .flag-at .ensures,
+      start .before .before .before .before .before .only3 .ensures .0,
+      start .before .before .before .before .before .before .only2 .ensures .0,
+      start .before .before .before .before .before .before .before .only .ensures .0,
     )
 
 pub ends-of-spec : {M : Type 1} → statement M

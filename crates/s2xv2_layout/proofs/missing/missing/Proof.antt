@@ -36,6 +36,7 @@ reaching-requires-10 c κs = search needs
 
 returns : tie.Need-returns
 returns c =
+    let start = c .before .before .before .before .before .before in
     simp (
       c .reaching10 .ensures,
       c .before .reaching9 .ensures,
@@ -43,10 +44,10 @@ returns c =
       c .before .before .before .reaching7 .ensures,
       c .before .before .before .before .reaching6 .ensures,
       c .before .before .before .before .before .reaching5 .ensures,
-      c .before .before .before .before .before .before .reaching4 .ensures,
-      c .before .before .before .before .before .before .before .reaching3 .ensures,
-      c .before .before .before .before .before .before .before .before .reaching2 .ensures,
-      c .before .before .before .before .before .before .before .before .before .reaching .ensures,
+      start .reaching4 .ensures,
+      start .before .reaching3 .ensures,
+      start .before .before .reaching2 .ensures,
+      start .before .before .before .reaching .ensures,
     )
 
 pub missing-spec : {M : Type 1} → statement M

@@ -38,6 +38,7 @@ has-superframe-requires c κs = search needs
 returns : tie.Need-returns
 unfolding presentIn
 returns c =
+    let start = c .before .before .before .before .before .before in
     simp (
       c .has-superframe .ensures,
       c .before .field2 .ensures,
@@ -45,10 +46,10 @@ returns c =
       c .before .before .before .has-timeslice .ensures,
       c .before .before .before .before .flag-at2 .ensures,
       c .before .before .before .before .before .has-scrambling-selector .ensures,
-      c .before .before .before .before .before .before .flag-at .ensures,
-      c .before .before .before .before .before .before .before .from-u8 .ensures,
-      c .before .before .before .before .before .before .before .before .field .ensures,
-      c .before .before .before .before .before .before .before .before .before .byte .ensures,
+      start .flag-at .ensures,
+      start .before .from-u8 .ensures,
+      start .before .before .field .ensures,
+      start .before .before .before .byte .ensures,
     )
 
 pub present-in-spec : {M : Type 1} → statement M

@@ -53,21 +53,22 @@ first-from-requires c κs = search needs
 returns : tie.Need-returns
 unfolding inconsistency
 returns c =
+    let start = c .before .before .before .before .before .before in
     simp (
       c .first-from .ensures,
       c .before .before .plan-stray .ensures,
       c .before .before .before .sffi-stray .ensures,
       c .before .before .before .before .superframe-differs .ensures,
       c .before .before .before .before .before .has-superframe .ensures,
-      c .before .before .before .before .before .before .bonds-stray .ensures,
-      c .before .before .before .before .before .before .before .u8-differs2 .ensures,
-      c .before .before .before .before .before .before .before .before .has-timeslice .ensures,
-      c .before .before .before .before .before .before .before .before .before .u32-stray .ensures,
-      c .before .before .before .before .before .before .before .before .before .before .is-set .ensures,
-      c .before .before .before .before .before .before .before .before .before .before .before .bool-differs .ensures,
-      c .before .before .before .before .before .before .before .before .before .before .before .before .has-scrambling-selector .ensures,
-      c .before .before .before .before .before .before .before .before .before .before .before .before .before .u8-differs .ensures,
-      c .before .before .before .before .before .before .before .before .before .before .before .before .before .before .is-misnamed .ensures,
+      start .bonds-stray .ensures,
+      start .before .u8-differs2 .ensures,
+      start .before .before .has-timeslice .ensures,
+      start .before .before .before .u32-stray .ensures,
+      start .before .before .before .before .is-set .ensures,
+      start .before .before .before .before .before .bool-differs .ensures,
+      start .before .before .before .before .before .before .has-scrambling-selector .ensures,
+      start .before .before .before .before .before .before .before .u8-differs .ensures,
+      start .before .before .before .before .before .before .before .before .is-misnamed .ensures,
     )
 
 pub inconsistency-spec : {M : Type 1} → statement M

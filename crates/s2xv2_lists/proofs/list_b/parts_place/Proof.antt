@@ -30,14 +30,15 @@ first-from-requires c κs = search needs
 
 returns : tie.Need-returns
 returns c =
+    let start = c .before .before .before .before .before .before in
     simp (
       c .first-from .ensures,
       c .before .before .before .less-one .ensures,
       c .before .before .before .before .before .or-zero .ensures,
-      c .before .before .before .before .before .before .u32-missing .ensures,
-      c .before .before .before .before .before .before .before .before .before .before .reserved-1-wide .ensures,
-      c .before .before .before .before .before .before .before .before .before .before .before .before .before .before .before .to-u8 .ensures,
-      c .before .before .before .before .before .before .before .before .before .before .before .before .before .before .before .before .before .is-set .ensures,
+      start .u32-missing .ensures,
+      start .before .before .before .before .reserved-1-wide .ensures,
+      start .before .before .before .before .before .before .before .before .before .to-u8 .ensures,
+      start .before .before .before .before .before .before .before .before .before .before .before .is-set .ensures,
     )
 
 pub parts-place-spec : {M : Type 1} → statement M

@@ -16,14 +16,15 @@ picked-requires c κs = search needs
 
 returns : tie.Need-returns
 returns c =
+    let start = c .before .before .before .before .before .before in
     λ e.
     let w6 = on-the-way (c .before .before .if6 .came) (λ l. l .1 ∙ l .0 .left) (c .before .if7 .taken) in
     let w5 = on-the-way (c .before .before .before .if5 .came) (λ l. l .1 ∙ l .0 .left) (w6 .0 .taken) in
     let w4 = on-the-way (c .before .before .before .before .if4 .came) (λ l. l .1 ∙ l .0 .left) (w5 .0 .taken) in
     let w3 = on-the-way (c .before .before .before .before .before .if3 .came) (λ l. l .1 ∙ l .0 .left) (w4 .0 .taken) in
-    let w2 = on-the-way (c .before .before .before .before .before .before .if2 .came) (λ l. l .1 ∙ l .0 .left) (w3 .0 .taken) in
-    let w1 = on-the-way (c .before .before .before .before .before .before .before .if1 .came) (λ l. l .1 ∙ le-ltb _ _ (l .0 .left)) (w2 .0 .taken) in
-    let f = c .before .before .before .before .before .before .before .before .before .args .f in
+    let w2 = on-the-way (start .if2 .came) (λ l. l .1 ∙ l .0 .left) (w3 .0 .taken) in
+    let w1 = on-the-way (start .before .if1 .came) (λ l. l .1 ∙ le-ltb _ _ (l .0 .left)) (w2 .0 .taken) in
+    let f = start .before .before .before .args .f in
     let sffi = ap isOne (eqb-true (f .«has_sffi») (f .«sffi_selector») (sym (w3 .2) ∙ w4 .0 .taken)) in
     let plan = ap isOne (eqb-true (f .«has_beamhopping_time_plan_id») (f .«beam_hopping_time_plan_selector») (sym (w5 .2) ∙ w6 .0 .taken)) in
     let nibble = rw (w4 .1 .ensures) at (ltb-true (w4 .1 .result) 16 (sym (w4 .2) ∙ w5 .0 .taken)) in

@@ -25,16 +25,17 @@ joined-requires-3 c κs = search needs
 
 returns : tie.Need-returns
 returns c =
-    let picked = c .before .before .before .before .before .before .before .picked in
+    let start = c .before .before .before .before .before .before in
+    let picked = start .before .picked in
     λ e.
     let w4 = on-the-way (c .before .before .if4 .came) (λ l. l .1 ∙ l .0 .left) (c .before .if5 .taken) in
     let w3 = on-the-way (c .before .before .before .if3 .came) (λ l. l .1 ∙ l .0 .left) (w4 .0 .taken) in
     let w2 = on-the-way (c .before .before .before .before .if2 .came) (λ l. l .1 ∙ l .0 .left) (w3 .0 .taken) in
     let w1 = on-the-way (c .before .before .before .before .before .if1 .came) (λ l. l .1 ∙ le-ltb _ _ (l .0 .left)) (w2 .0 .taken) in
-    let r = c .before .before .before .before .before .before .before .before .before .before .args .c in
-    let joined = c .before .before .before .before .before .before .before .before .before .joined in
-    let joined2 = c .before .before .before .before .before .before .before .before .joined2 in
-    let joined3 = c .before .before .before .before .before .before .joined3 in
+    let r = start .before .before .before .before .args .c in
+    let joined = start .before .before .before .joined in
+    let joined2 = start .before .before .joined2 in
+    let joined3 = start .joined3 in
     let q = four-joined (r .«reserved_zero_future_use_2») (r .«channel_bond») (r .polarization) (r .«ts_gs_s2x_mode») _ _ _ (joined .ensures) (joined2 .ensures) (joined3 .ensures) (w1 .0 .taken) in
     let top = rw (picked .ensures) at (ltb-true (picked .result) 2 (sym (w4 .1) ∙ c .before .if5 .taken)) in (
       rw (code-in (r .«mode_is_reserved») (r .«s2xv2_mode»)) (fits 16 (r .«s2xv2_mode») (sym (w1 .2) ∙ w2 .0 .taken)),

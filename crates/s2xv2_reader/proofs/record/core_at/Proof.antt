@@ -80,32 +80,33 @@ field-at-requires-11 c κs = omega (arith, c .before .before .before .before .be
 returns : tie.Need-returns
 unfolding flatCoreAt
 returns c =
+    let start = c .before .before .before .before .before .before in
     simp (
       c .before .before .field-at11 .ensures,
       c .before .before .before .field-at10 .ensures,
-      c .before .before .before .before .before .before .before .field-at9 .ensures,
-      c .before .before .before .before .before .before .before .before .field-at8 .ensures,
-      c .before .before .before .before .before .before .before .before .before .field-at7 .ensures,
-      c .before .before .before .before .before .before .before .before .before .before .field-at6 .ensures,
-      c .before .before .before .before .before .before .before .before .before .before .before .field-at5 .ensures,
-      c .before .before .before .before .before .before .before .before .before .before .before .before .field-at4 .ensures,
-      c .before .before .before .before .before .before .before .before .before .before .before .before .before .field-at3 .ensures,
-      c .before .before .before .before .before .before .before .before .before .before .before .before .before .before .field-at2 .ensures,
-      c .before .before .before .before .before .before .before .before .before .before .before .before .before .before .before .before .before .before .before .before .before .before .before .before .field-at .ensures,
+      start .before .field-at9 .ensures,
+      start .before .before .field-at8 .ensures,
+      start .before .before .before .field-at7 .ensures,
+      start .before .before .before .before .field-at6 .ensures,
+      start .before .before .before .before .before .field-at5 .ensures,
+      start .before .before .before .before .before .before .field-at4 .ensures,
+      start .before .before .before .before .before .before .before .field-at3 .ensures,
+      start .before .before .before .before .before .before .before .before .field-at2 .ensures,
+      start .before .before .before .before .before .before .before .before .before .before .before .before .before .before .before .before .before .before .field-at .ensures,
       c .before .before .before .before .bit-of3 .ensures .0,
       c .before .before .before .before .before .bit-of2 .ensures .0,
-      c .before .before .before .before .before .before .bit-of .ensures .0,
-      c .before .before .before .before .before .before .before .before .before .before .before .before .before .before .before .is-reserved .ensures,
-      c .before .before .before .before .before .before .before .before .before .before .before .before .before .before .before .before .be323 .ensures,
-      c .before .before .before .before .before .before .before .before .before .before .before .before .before .before .before .before .before .be322 .ensures,
-      c .before .before .before .before .before .before .before .before .before .before .before .before .before .before .before .before .before .before .be24 .ensures .0,
-      c .before .before .before .before .before .before .before .before .before .before .before .before .before .before .before .before .before .before .before .be32 .ensures,
-      c .before .before .before .before .before .before .before .before .before .before .before .before .before .before .before .before .before .before .before .before .flag .ensures,
-      c .before .before .before .before .before .before .before .before .before .before .before .before .before .before .before .before .before .before .before .before .before .byte .ensures .0,
-      c .before .before .before .before .before .before .before .before .before .before .before .before .before .before .before .before .before .before .before .before .before .before .has-scrambling-selector .ensures,
-      c .before .before .before .before .before .before .before .before .before .before .before .before .before .before .before .before .before .before .before .before .before .before .before .from-u8 .ensures,
+      start .bit-of .ensures .0,
+      start .before .before .before .before .before .before .before .before .before .is-reserved .ensures,
+      start .before .before .before .before .before .before .before .before .before .before .be323 .ensures,
+      start .before .before .before .before .before .before .before .before .before .before .before .be322 .ensures,
+      start .before .before .before .before .before .before .before .before .before .before .before .before .be24 .ensures .0,
+      start .before .before .before .before .before .before .before .before .before .before .before .before .before .be32 .ensures,
+      start .before .before .before .before .before .before .before .before .before .before .before .before .before .before .flag .ensures,
+      start .before .before .before .before .before .before .before .before .before .before .before .before .before .before .before .byte .ensures .0,
+      start .before .before .before .before .before .before .before .before .before .before .before .before .before .before .before .before .has-scrambling-selector .ensures,
+      start .before .before .before .before .before .before .before .before .before .before .before .before .before .before .before .before .before .from-u8 .ensures,
     )
-    (flat-core (now (c .before .before .before .before .before .before .before .before .before .before .before .before .before .before .before .before .before .before .before .before .before .before .before .before .before .before .args .s)))
+    (flat-core (now (start .before .before .before .before .before .before .before .before .before .before .before .before .before .before .before .before .before .before .before .before .args .s)))
 
 pub core-at-spec : {M : Type 1} → statement M
 core-at-spec =

@@ -27,9 +27,10 @@ same-length c = search needs
 returns : tie.Need-returns
 unfolding bodyOf
 returns c =
-    then4 (c .before .before .before .before .before .before .before .before .before .before .before .before .before .before .before .core .ensures)
-    (c .before .before .before .before .before .before .before .before .before .before .before .parts .ensures)
-    (c .before .before .before .before .before .before .before .superframe .ensures)
+    let start = c .before .before .before .before .before .before .before in
+    then4 (start .before .before .before .before .before .before .before .before .core .ensures)
+    (start .before .before .before .before .parts .ensures)
+    (start .superframe .ensures)
     (c .before .before .line .ensures)
 
 pub accepted-spec : {M : Type 1} → statement M

@@ -24,8 +24,9 @@ same-length c = search needs
 returns : tie.Need-returns
 unfolding refusedOf
 returns c =
-    then3 (c .before .before .before .before .before .before .before .before .before .before .copy .ensures)
-    (c .before .before .before .before .before .before .numbers .ensures)
+    let start = c .before .before .before .before .before .before in
+    then3 (start .before .before .before .before .copy .ensures)
+    (start .numbers .ensures)
     (c .before .before .put .ensures)
 
 pub refused-spec : {M : Type 1} → statement M

@@ -57,9 +57,10 @@ array-read-t25 c = search needs
 
 returns : tie.Need-returns
 returns c =
-    let f = c .before .before .before .before .before .before .args .f in
-    let b = c .before .before .before .before .before .before .pre .1 in
-    let g = flagged-block f (c .before .before .before .before .before .before .pre .0) in
+    let start = c .before .before .before .before .before .before in
+    let f = start .args .f in
+    let b = start .pre .1 in
+    let g = flagged-block f (start .pre .0) in
     simp (
       c .octet .ensures,
       c .before .be-bytes-242 .ensures,

@@ -49,12 +49,13 @@ add-put-32-2 c = search needs
 put-32-requires-2 : tie.Need-put-32-requires-2
 unfolding bondParts
 put-32-requires-2 c κs =
+    let start = c .before .before .before .before .before .before .before .before in
     let k = rw (
-      eq-eqb _ _ (c .before .before .before .before .before .before .before .before .before .before .before .before .if1 .taken),
+      eq-eqb _ _ (start .before .before .before .before .if1 .taken),
       c .before .if2 .taken,
     )
-    at (c .before .before .before .before .before .before .before .before .before .before .before .before .before .before .pre .0) in
-    omega (arith, c .before .before .before .before .put-32 .kept .0, c .before .before .before .before .before .before .before .before .put .kept .0)
+    at (start .before .before .before .before .before .before .pre .0) in
+    omega (arith, c .before .before .before .before .put-32 .kept .0, start .put .kept .0)
 
 add-result : tie.Need-add-result
 add-result c = search needs
@@ -68,17 +69,18 @@ same-length c = search needs
 returns : tie.Need-returns
 unfolding bondParts
 returns c =
+    let start = c .before .before .before .before .before .before .before in
     let if2 = c .before .before .before .before .if2 in
-    let a = c .before .before .before .before .before .before .before .before .before .before .before .before .before .before .before .before .before .args in
+    let a = start .before .before .before .before .before .before .before .before .before .before .args in
     let e₁ = rw (
-      c .before .before .before .before .before .before .before .before .before .before .before .before .bond-header .ensures,
-      c .before .before .before .before .before .before .before .before .before .before .before .before .before .less-one .ensures,
+      start .before .before .before .before .before .bond-header .ensures,
+      start .before .before .before .before .before .before .less-one .ensures,
     )
-    at (c .before .before .before .before .before .before .before .before .before .before .before .put .ensures) in
-    let e₂ = c .before .before .before .before .before .before .before .put-32 .ensures in
+    at (start .before .before .before .before .put .ensures) in
+    let e₂ = start .put-32 .ensures in
     let e₃ = c .before .before .put-322 .ensures in
     rw (
-      eq-eqb _ _ (c .before .before .before .before .before .before .before .before .before .before .before .before .before .before .before .if1 .taken),
+      eq-eqb _ _ (start .before .before .before .before .before .before .before .before .if1 .taken),
       if2 .taken,
     )
     (refl, run _ _ _ _ _ (rw (if2 .taken) at e₁) (run _ (a .p + 1) (be 4 (a .first)) (a .p + 5) (be 4 (a .second)) e₂ e₃ (sym (add-assoc (a .p) 1 4))) refl)

@@ -32,11 +32,12 @@ same-length c = search needs
 
 returns : tie.Need-returns
 returns c =
-    let e₁ = c .before .before .before .before .before .before .before .before .before .before .before .before .before .before .before .before .before .before .before .put-32 .ensures in
-    let flag-bytes = c .before .before .before .before .before .before .before .before .before .before .before .before .before .before .before .before .before .before .before .before .before .flag-bytes in
-    let e₂ = rw (flag-bytes .ensures) at (c .before .before .before .before .before .before .before .before .before .before .before .before .before .before .copy .ensures) in
-    let e₃ = c .before .before .before .before .before .before .before .before .before .before .put-24 .ensures in
-    let e₄ = c .before .before .before .before .before .before .put-322 .ensures in
+    let start = c .before .before .before .before .before .before in
+    let e₁ = start .before .before .before .before .before .before .before .before .before .before .before .before .before .put-32 .ensures in
+    let flag-bytes = start .before .before .before .before .before .before .before .before .before .before .before .before .before .before .before .flag-bytes in
+    let e₂ = rw (flag-bytes .ensures) at (start .before .before .before .before .before .before .before .before .copy .ensures) in
+    let e₃ = start .before .before .before .before .put-24 .ensures in
+    let e₄ = start .put-322 .ensures in
     let e₅ = c .before .before .put-323 .ensures in
     run _ _ _ _ _ e₁ (run _ _ _ _ _ e₂ (run _ _ _ _ _ e₃ (run _ _ _ _ _ e₄ e₅ refl) refl) refl) refl
 

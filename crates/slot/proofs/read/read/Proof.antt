@@ -38,7 +38,8 @@ in-slot-requires c κs =
 
 returns-2 : tie.Need-returns-2
 returns-2 c =
-    reads-body _ _ (c .before .before .parse .result) (sym (c .before .before .before .before .before .before .before .in-form .ensures) ∙ c .before .before .before .before .before .before .if1 .taken) (omega arith) (c .before .before .before .body-in .ensures) (c .before .before .parse .ensures) (c .in-slot .result) (c .in-slot .ensures)
+    let start = c .before .before .before .before .before .before in
+    reads-body _ _ (c .before .before .parse .result) (sym (start .before .in-form .ensures) ∙ start .if1 .taken) (omega arith) (c .before .before .before .body-in .ensures) (c .before .before .parse .ensures) (c .in-slot .result) (c .in-slot .ensures)
 
 without-requires-2 : tie.Need-without-requires-2
 without-requires-2 c κs = search needs
