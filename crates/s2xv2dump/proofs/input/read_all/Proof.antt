@@ -1,18 +1,18 @@
--- `s2xv2dump::read_all` meets its contract. The loop's invariant: what was read lies within the buffer, which keeps its length. The measure
--- is what is left of the buffer.
+-- `s2xv2dump::input::read_all` meets its contract. The loop's invariant: what was read lies within the buffer, which
+-- keeps its length. The measure is what is left of the buffer.
 -- Assumes nothing.
 use Prim.Native.Nat.{_≤_, _-_}
 use mathlib.Core.Path.{_≡_}
 use borrow.Author.Needs.{needs}
 use lib.ListN.{length}
-use Rattle.s2xv2dump.proofs.read_all.Statement.{statement}
-use Rattle.s2xv2dump.proofs.read_all.Tie as tie
+use Rattle.s2xv2dump.proofs.input.read_all.Statement.{statement}
+use Rattle.s2xv2dump.proofs.input.read_all.Tie as tie
 
 abbrev Inv-loop : tie.InvT-loop
-Inv-loop buf₀ at₀ buf at = (at ≤ length buf) × (length buf ≡ length buf₀)
+Inv-loop fd buf₀ at₀ buf at = (at ≤ length buf) × (length buf ≡ length buf₀)
 
 abbrev μ-loop : tie.MeasureT-loop
-μ-loop buf₀ at₀ buf at = length buf - at
+μ-loop fd buf₀ at₀ buf at = length buf - at
 
 loop-holds : tie.Need-loop-holds Inv-loop μ-loop
 loop-holds c = search needs

@@ -1,0 +1,4 @@
+pub mod Glyphs
+pub mod Texts
+pub mod Pens
+pub mod Answers

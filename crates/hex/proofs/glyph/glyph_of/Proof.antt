@@ -1,0 +1,93 @@
+-- `hex::glyph::glyph_of` meets its contract: the tests before the one that holds pick the case.
+-- Assumes nothing.
+use mathlib.Core.Path.{sym, _∙_}
+use native.Mathlib.Omega.{arith}
+use Rattle.hex.specs.Glyph.{glyphOf}
+use Rattle.hex.proofs.Glyphs.{within-ends}
+use borrow.Author.Needs.{needs}
+use Rattle.hex.proofs.glyph.glyph_of.Statement.{statement}
+use Rattle.hex.proofs.glyph.glyph_of.Tie as tie
+
+is-within-requires : tie.Need-is-within-requires
+is-within-requires c κs = search needs
+
+sub-t3 : tie.Need-sub-t3
+sub-t3 c =
+    omega (arith, within-ends 48 57 (c .before .before .args .c) (sym (c .before .is-within .ensures) ∙ c .if1 .taken))
+
+returns : tie.Need-returns
+unfolding glyphOf
+returns c =
+    rw
+    (sym (c .before .is-within .ensures) ∙ c .if1 .taken)
+
+is-within-requires-2 : tie.Need-is-within-requires-2
+is-within-requires-2 c κs = search needs
+
+sub-t5 : tie.Need-sub-t5
+sub-t5 c =
+    omega (arith, within-ends 65 70 (c .before .before .before .before .args .c) (sym (c .before .is-within2 .ensures) ∙ c .if2 .taken))
+
+returns-2 : tie.Need-returns-2
+unfolding glyphOf
+returns-2 c =
+    rw (
+      sym (c .before .before .before .is-within .ensures) ∙ c .before .before .if1 .left,
+      sym (c .before .is-within2 .ensures) ∙ c .if2 .taken,
+    )
+
+is-within-requires-3 : tie.Need-is-within-requires-3
+is-within-requires-3 c κs = search needs
+
+sub-t7 : tie.Need-sub-t7
+sub-t7 c =
+    omega (arith, within-ends 97 102 (c .before .before .before .before .before .before .args .c) (sym (c .before .is-within3 .ensures) ∙ c .if3 .taken))
+
+returns-3 : tie.Need-returns-3
+unfolding glyphOf
+returns-3 c =
+    rw (
+      sym (c .before .before .before .before .before .is-within .ensures) ∙ c .before .before .before .before .if1 .left,
+      sym (c .before .before .before .is-within2 .ensures) ∙ c .before .before .if2 .left,
+      sym (c .before .is-within3 .ensures) ∙ c .if3 .taken,
+    )
+
+is-blank-requires : tie.Need-is-blank-requires
+is-blank-requires c κs = search needs
+
+returns-4 : tie.Need-returns-4
+unfolding glyphOf
+returns-4 c =
+    rw (
+      sym (c .before .before .before .before .before .before .before .is-within .ensures) ∙ c .before .before .before .before .before .before .if1 .left,
+      sym (c .before .before .before .before .before .is-within2 .ensures) ∙ c .before .before .before .before .if2 .left,
+      sym (c .before .before .before .is-within3 .ensures) ∙ c .before .before .if3 .left,
+      sym (c .before .is-blank .ensures) ∙ c .if4 .taken,
+    )
+
+returns-5 : tie.Need-returns-5
+unfolding glyphOf
+returns-5 c =
+    rw (
+      sym (c .before .before .before .before .before .before .before .is-within .ensures) ∙ c .before .before .before .before .before .before .if1 .left,
+      sym (c .before .before .before .before .before .is-within2 .ensures) ∙ c .before .before .before .before .if2 .left,
+      sym (c .before .before .before .is-within3 .ensures) ∙ c .before .before .if3 .left,
+      sym (c .before .is-blank .ensures) ∙ c .if4 .left,
+    )
+
+pub glyph-of-spec : {M : Type 1} → statement M
+glyph-of-spec =
+    tie.close
+    (tie.spec
+    is-within-requires
+    sub-t3
+    returns
+    is-within-requires-2
+    sub-t5
+    returns-2
+    is-within-requires-3
+    sub-t7
+    returns-3
+    is-blank-requires
+    returns-4
+    returns-5)

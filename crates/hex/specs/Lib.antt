@@ -1,0 +1,3 @@
+pub mod Glyph
+pub mod Text
+pub mod Pen
