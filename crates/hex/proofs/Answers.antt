@@ -16,7 +16,7 @@ use Rattle.wire.specs.Flags.{when}
 use Rattle.lines.specs.Out.{Out, _from_, putOne, write, Wrote}
 use Rattle.lines.specs.Line.{codes}
 use Rattle.hex.specs.Glyph.{isBlank, glyphOf}
-use Rattle.hex.specs.Text.{digitsOf, pairsOf, bytesOf, otherAt, isSound, answerOf, decodedInto}
+use Rattle.hex.specs.Text.{digitsOf, pairsOf, hexBytes, otherAt, isSound, answerOf, decodedInto}
 use Rattle.hex.specs.declared.decode.Decoded.the-variants as D
 
 -- ---- the tests
@@ -39,7 +39,7 @@ pub refused : (s o : List ℕ) (at : ℕ) → isSound s ≡ false → at ≡ oth
 unfolding answerOf decodedInto
 refused s o at e a = (rw (e, a), rw e)
 
-pub taken : (s o o' : List ℕ) (n : ℕ) → isSound s ≡ true → Wrote (o from 0) (bytesOf s) (o' from n)
+pub taken : (s o o' : List ℕ) (n : ℕ) → isSound s ≡ true → Wrote (o from 0) (hexBytes s) (o' from n)
     → (D.Bytes n ≡ answerOf s o) × (o' ≡ decodedInto s o)
 unfolding answerOf decodedInto
 taken s o o' n e w = (rw e (ap (λ (x : Out). D.Bytes (x .at)) (w .is)), rw e (ap (λ (x : Out). x .bytes) (w .is)))
@@ -67,14 +67,14 @@ pub bytes-within : (s o : List ℕ) (n : ℕ) → D.Bytes n ≡ answerOf s o →
 unfolding answerOf Within
 bytes-within s o n e = by (isSound s) e
   where
-    by : (t : Bool) → D.Bytes n ≡ when t (D.Bytes (write (o from 0) (bytesOf s) .at)) (D.Refused (otherAt s)) → n ≤ length o
+    by : (t : Bool) → D.Bytes n ≡ when t (D.Bytes (write (o from 0) (hexBytes s) .at)) (D.Refused (otherAt s)) → n ≤ length o
     by true e =
-        let q : n ≡ write (o from 0) (bytesOf s) .at = cc in
-        omega (arith, write-within (bytesOf s) (length o) (o from 0) (omega arith, refl))
+        let q : n ≡ write (o from 0) (hexBytes s) .at = cc in
+        omega (arith, write-within (hexBytes s) (length o) (o from 0) (omega arith, refl))
     by false e = let z : _≡_ {A = ℕ} 0 1 = cc in absurd (omega arith)
 
 -- ---- examples
-pub example : bytesOf (codes "7f 0 A\n01") ≡ 0x7F ∷ 0x0A ∷ 0x01 ∷ []
+pub example : hexBytes (codes "7f 0 A\n01") ≡ 0x7F ∷ 0x0A ∷ 0x01 ∷ []
 unfolding digitsOf pairsOf glyphOf isBlank
 example = refl
 

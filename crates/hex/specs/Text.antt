@@ -1,7 +1,7 @@
 -- Hexadecimal text: what it decodes to, and which texts are refused. Assumes nothing.
 -- `digitsOf`     the digits of a text, without its blanks
 -- `pairsOf`      two digits make a byte, the first one counting sixteen times
--- `bytesOf`      the bytes that a text stands for
+-- `hexBytes`     the bytes that a text stands for
 -- `otherAt`      the offset of the first character that is neither a digit nor a blank, or the text's length
 -- `isSound`      there is no such character, and no byte of one digit
 -- `answerOf`     what the call answers
@@ -26,8 +26,8 @@ pairsOf [] = []
 pairsOf (high ∷ []) = []
 pairsOf (high ∷ low ∷ ds) = (high * 16 + low) ∷ pairsOf ds
 
-abbrev pub bytesOf : List ℕ → List ℕ
-bytesOf text = pairsOf (digitsOf text)
+abbrev pub hexBytes : List ℕ → List ℕ
+hexBytes text = pairsOf (digitsOf text)
 
 unfoldable pub otherAt : List ℕ → ℕ
 otherAt [] = zero
@@ -41,8 +41,8 @@ isSound text = leb (length text) (otherAt text) && eqb (length (digitsOf text) %
 
 -- how many bytes are stored; or the offset of the fault, which is the text's length where it ends inside a byte
 unfoldable pub answerOf : List ℕ → List ℕ → Decoded
-answerOf text out = when (isSound text) (D.Bytes (write (out from 0) (bytesOf text) .at)) (D.Refused (otherAt text))
+answerOf text out = when (isSound text) (D.Bytes (write (out from 0) (hexBytes text) .at)) (D.Refused (otherAt text))
 
 -- the bytes from its start on, as far as it reaches; for a refused text as it was
 unfoldable pub decodedInto : List ℕ → List ℕ → List ℕ
-decodedInto text out = when (isSound text) (write (out from 0) (bytesOf text) .bytes) out
+decodedInto text out = when (isSound text) (write (out from 0) (hexBytes text) .bytes) out

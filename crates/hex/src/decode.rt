@@ -5,7 +5,7 @@ ghost use mathlib.Core.List.{_∷_, []};
 ghost use lib.ListN.{length};
 ghost use Rattle.lines.specs.Out.{_from_, Wrote};
 ghost use Rattle.hex.specs.Glyph.{glyphOf, digitIn};
-ghost use Rattle.hex.specs.Text.{otherAt, digitsOf, bytesOf, answerOf, decodedInto};
+ghost use Rattle.hex.specs.Text.{otherAt, digitsOf, hexBytes, answerOf, decodedInto};
 ghost use Rattle.hex.specs.Pen.{heldIn, Low, Moved};
 use crate::glyph::Glyph;
 use crate::glyph::digits_in;
@@ -95,7 +95,7 @@ fn step(out: &mut [u8], pen: Pen, c: u8) -> Pen
 
 // Stores the bytes of the text from the start of the buffer on, as far as it reaches, and gives the place behind them.
 fn store(text: &[u8], out: &mut [u8]) -> usize
-    ensures { λ r. ⌜ Wrote (now (out .entry) from 0) (bytesOf (now (text .entry))) (now (out .exit) from r) ⌝ }
+    ensures { λ r. ⌜ Wrote (now (out .entry) from 0) (hexBytes (now (text .entry))) (now (out .exit) from r) ⌝ }
 {
     let mut pen = Pen {
         at: 0,

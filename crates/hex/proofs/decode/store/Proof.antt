@@ -8,7 +8,7 @@ use native.Mathlib.Omega.{arith}
 use lib.ListN.{length, drop}
 use borrow.Author.Needs.{needs}
 use Rattle.lines.specs.Out.{_from_, write}
-use Rattle.hex.specs.Text.{digitsOf, pairsOf, bytesOf}
+use Rattle.hex.specs.Text.{digitsOf, pairsOf, hexBytes}
 use Rattle.hex.specs.Pen.{heldIn, Low}
 use Rattle.hex.proofs.Texts.{digits-more, digits-end, none-held}
 use Rattle.hex.proofs.decode.store.Statement.{statement}
@@ -17,7 +17,7 @@ use Rattle.hex.proofs.decode.store.Tie as tie
 abbrev Inv-loop : tie.InvT-loop
 Inv-loop text out₀ pen₀ i₀ out pen i =
     (i ≤ length text) × (length out ≡ length out₀) × (Low (heldIn (pen .high)))
-    × (write (out₀ from 0) (bytesOf text) ≡ write (out from (pen .at)) (pairsOf (heldIn (pen .high) ++ digitsOf (drop i text))))
+    × (write (out₀ from 0) (hexBytes text) ≡ write (out from (pen .at)) (pairsOf (heldIn (pen .high) ++ digitsOf (drop i text))))
 
 abbrev μ-loop : tie.MeasureT-loop
 μ-loop text out₀ pen₀ i₀ out pen i = length text - i
