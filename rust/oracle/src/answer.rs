@@ -1,4 +1,4 @@
-//! The answers by the numbers of document 01.
+//! The answers by the numbers of docs/ANSWERS.md.
 
 #[derive(Clone, Copy, Debug, PartialEq, Eq)]
 pub enum Answer {

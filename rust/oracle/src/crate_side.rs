@@ -1,6 +1,6 @@
-//! The crate's own reader, writer and length, with its answers as document 01's numbers.
+//! The crate's own reader, writer and length, with its answers as the numbers of docs/ANSWERS.md.
 //!
-//! Where the crate has no answer to compare, document 01's is given: a body or an encoding above 4,096 bytes (2), a record that
+//! Where the crate has no answer to compare, that of docs/ANSWERS.md is given: a body or an encoding above 4,096 bytes (2), a record that
 //! contradicts itself (3), and a polarization above 3, which the crate's type cannot hold (4, place 5).
 use crate::answer::{long, Answer};
 use crate::model::inconsistency;
@@ -138,7 +138,7 @@ fn place_of_width(field: &str, v: &Values) -> u32 {
     }
 }
 
-/// What the crate itself answers, where document 01 has another answer: its length, what its writer says with that room, and the bytes that
+/// What the crate itself answers, where docs/ANSWERS.md has another answer: its length, what its writer says with that room, and the bytes that
 /// it leaves in a buffer of `before`.
 pub fn unjudged_write(v: &Values, tail: &[u8], before: u8) -> String {
     let record = from_values(v, tail);

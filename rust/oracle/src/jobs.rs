@@ -1,4 +1,4 @@
-//! A plain model of the slot and its job, from document 01 alone, and the cases of the program `replay_jobs`: for every slot size and several
+//! A plain model of the slot and its job, from docs/ANSWERS.md alone, and the cases of the program `replay_jobs`: for every slot size and several
 //! records every number of stores, what the slot then reads as, and what a new job begun there leaves.
 use crate::answer::Answer;
 use crate::crate_side::{length, read, write};

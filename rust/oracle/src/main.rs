@@ -3,7 +3,7 @@
 //!     oracle record                writes what the program `replay` has to print
 //!     oracle record-jobs           writes what the program `replay_jobs` has to print, by a plain model of the slot and its job
 //!     oracle codes                 tells whether RollOff, Polarization and S2Xv2Mode give their codes back
-//!     oracle edges                 shows what the crate itself answers to the cases with a name that document 01 refuses otherwise
+//!     oracle edges                 shows what the crate itself answers to the cases with a name that the library refuses otherwise
 //!     oracle show SET CASE         shows every number of a case, by name
 //!     oracle compare PROGRAM       finds the first case in which PROGRAM, a built `replay`, differs
 use oracle::answer::{Answer, CELLS};
@@ -55,7 +55,7 @@ fn record_jobs() {
     println!("jobs {}\n{}\ndigest {}", jobs::CASES, words(&counts), s.digest);
 }
 
-/// The cases with a name to which the crate's answer is not document 01's.
+/// The cases with a name to which the crate's answer is not the library's.
 fn edges() {
     let tail = generator::tail();
     for (k, body) in named::bodies().iter().enumerate() {

@@ -1,4 +1,4 @@
-//! What the Rust has no answer for, from document 01 alone: list A. The limit of 4,096 bytes and a polarization above 3 stand where
+//! What the Rust has no answer for, from docs/ANSWERS.md alone: list A. The limit of 4,096 bytes and a polarization above 3 stand where
 //! the Rust is asked (crate_side.rs).
 use crate::values::*;
 

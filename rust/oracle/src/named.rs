@@ -1,4 +1,4 @@
-//! The cases with a name: each row of document 01's table that a body or a record shows, the errors that look right, and the edges of
+//! The cases with a name: each row of the table of bodies at the edges, the errors that look right, and the edges of
 //! both lists.
 use crate::generator::{plain, Body, Written};
 use crate::values::*;

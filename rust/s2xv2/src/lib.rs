@@ -22,8 +22,8 @@
 //! # Ok::<(), Refusal>(())
 //! ```
 //!
-//! In what follows, document 01 is the paper from which the library is made: it numbers the refusals, and lists what is refused of a
-//! record (list A: it contradicts itself; list B: a value is too wide for the wire).
+//! `docs/ANSWERS.md` of the repository has every refusal: its number, what it tells, and when it is given, with the two lists of what is
+//! refused of a record (list A: it contradicts itself; list B: a value is too wide for the wire).
 #![no_std]
 #![deny(unsafe_code)]
 #![warn(missing_docs)]

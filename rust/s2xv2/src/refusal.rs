@@ -1,7 +1,7 @@
 //! Why a call was refused.
 use core::fmt;
 
-/// Why a call was refused: document 01's refusals by their names, and two of the boundary's own, [`Refusal::TooManyIds`] and
+/// Why a call was refused: the refusals of docs/ANSWERS.md by their names, and two of the boundary's own, [`Refusal::TooManyIds`] and
 /// [`Refusal::BadArchive`].
 ///
 /// It prints as a sentence that names the part or the field.
@@ -139,7 +139,7 @@ fn are(count: usize) -> &'static str {
 }
 
 impl Refusal {
-    /// The number of the refusal: document 01's, from 1 to 8. [`Refusal::TooManyIds`] has 100, as the C header has it for a record that
+    /// The number of the refusal, from 1 to 8. [`Refusal::TooManyIds`] has 100, as the C header has it for a record that
     /// none of the library's could be. [`Refusal::BadArchive`] has 101, a number of this crate's own: no document has it, and no archive.
     #[must_use]
     pub const fn number(&self) -> u8 {

@@ -1,4 +1,4 @@
-//! Reading: the table of document 01, and the ends of the sizes.
+//! Reading: the table of bodies at the edges, and the ends of the sizes.
 use s2xv2::{Refusal, S2Xv2Mode, S2Xv2SatelliteDeliverySystem as Record};
 
 /// A body of zeros but for these bytes.
