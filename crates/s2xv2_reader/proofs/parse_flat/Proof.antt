@@ -48,12 +48,11 @@ refused-requires-3 c κs = search needs
 returns-3 : tie.Need-returns-3
 unfolding bodySize
 returns-3 c =
-    let start = c .before .before .before .before .before .before in
-    let present-in = c .before .before .before .before .present-in in
-    let ends-of = c .before .before .before .ends-of in
+    let laid = c .before .before .before in
+    let start = laid .before .before .before in
     let s = now (start .before .before .args .sel) in
-    let e = simp (ends-of .ensures, present-in .ensures) at (c .before .missing .ensures) in
-    let h = rw (ends-of .ensures, present-in .ensures) at (c .before .before .if3 .taken) in
+    let e = simp (laid .ends-of .ensures, laid .before .present-in .ensures) at (c .before .missing .ensures) in
+    let h = rw (laid .ends-of .ensures, laid .before .present-in .ensures) at (c .before .before .if3 .taken) in
     let d : told (c .before .missing .result) ≡ readTold s = _∙_ {b = shortTold (length s) (parts s (presentIn s)) (0 ∷ bodySize s ∷ [])} e (sym (told-within s (start .if1 .left))) in
     c .refused3 .ensures ∙ simp d (sym (ap flatSeen (reads-short s h)))
 
@@ -66,18 +65,11 @@ record-at-requires c κs = (c .before .before .ends-of .ensures, c .before .if3 
 returns-4 : tie.Need-returns-4
 unfolding bodySize
 returns-4 c =
-    let start = c .before .before .before .before .before .before in
-    let present-in = c .before .before .before .before .present-in in
-    let ends-of = c .before .before .before .ends-of in
-    let s = now (start .before .before .args .sel) in
-    let h = rw (ends-of .ensures, present-in .ensures) at (c .before .before .if3 .left) in
-    simp (
-      c .record-at .ensures,
-      c .before .answer-of .ensures,
-      ends-of .ensures,
-      present-in .ensures,
-    )
-    (sym (ap flatSeen (reads-accepted s h (start .if1 .left))))
+    let laid = c .before .before .before in
+    let within = laid .before .before .before .if1 .left in
+    let h = rw (laid .ends-of .ensures, laid .before .present-in .ensures) at (c .before .before .if3 .left) in
+    simp (c .record-at .ensures, c .before .answer-of .ensures, laid .ends-of .ensures, laid .before .present-in .ensures)
+    (sym (ap flatSeen (reads-accepted _ h within)))
 
 pub parse-flat-spec : {M : Type 1} → statement M
 parse-flat-spec =
