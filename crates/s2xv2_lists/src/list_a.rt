@@ -5,7 +5,7 @@ ghost use Rattle.wire.specs.Flags.{and, not, differ};
 ghost use Rattle.answers.specs.Options.{isSomeBool, isSome8, isSome32};
 ghost use Rattle.s2xv2.specs.OptionSuperframe.{isSomeSuperframe};
 ghost use Rattle.s2xv2.specs.ListA.{misnamed, inSuperframe, inconsistency};
-use crate::first::first_from;
+use crate::list_b::first_from;
 use answers::option::OptionBool;
 use answers::option::OptionU8;
 use answers::option::OptionU32;

@@ -1,6 +1,8 @@
 // List B: a value that the wire cannot carry.
 ghost use mathlib.Core.List.{_++_};
 ghost use mathlib.Core.Path.{_≡_};
+ghost use Prim.Native.Nat.{_+_, _≤_};
+ghost use lib.ListN.{length};
 ghost use Rattle.wire.specs.Flags.{and, not};
 ghost use Rattle.answers.specs.Options.{isSomeBool, isSome8, isSome32};
 ghost use Rattle.wire.specs.Count.{lessOne};
@@ -8,7 +10,6 @@ ghost use Rattle.s2xv2.specs.Encode.{nibbleOf};
 ghost use Rattle.answers.specs.Tests.{firstFrom};
 ghost use Rattle.wire.specs.Widths.{wide};
 ghost use Rattle.s2xv2.specs.ListB.{coreB, scramblingB, bondB, superframeB, unwritable};
-use crate::first::first_from;
 use answers::option::OptionBool;
 use answers::option::OptionU8;
 use answers::option::OptionU32;
@@ -58,6 +59,23 @@ fn nibble(selector: bool, sffi: OptionU8, reserved: u8) -> u8
     ensures { λ r. ⌜ r ≡ nibbleOf selector sffi reserved ⌝ }
 {
     if selector { sffi.or_zero() } else { reserved }
+}
+
+// The place, counted from `place`, of the first test that holds; 0 if none does.
+pub(crate) fn first_from(place: u8, tests: &[bool]) -> u8
+    requires { ⌜ place + length (now tests) ≤ 255 ⌝ }
+    ensures { λ r. ⌜ r ≡ firstFrom place (now (tests .entry)) ⌝ }
+{
+    let mut i = 0;
+    let mut at = place;
+    while i < tests.len() {
+        if tests[i] {
+            return at;
+        }
+        i += 1;
+        at += 1;
+    }
+    0
 }
 
 // The first place of list B that is of the core, the scrambling index or the bonds, or 0.

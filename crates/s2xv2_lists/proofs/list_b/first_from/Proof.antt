@@ -1,4 +1,4 @@
--- `s2xv2_lists::first::first_from` meets its contract. The invariant: none of the first i tests holds, so that the place is one of those that are left.
+-- `s2xv2_lists::list_b::first_from` meets its contract. The invariant: none of the first i tests holds, so that the place is one of those that are left.
 -- Assumes nothing.
 use mathlib.Core.Path.{_≡_, refl, sym, ap, _∙_}
 use mathlib.Core.List.{List}
@@ -11,8 +11,8 @@ use lib.Seq.{drop-cons}
 use denote.Ref.{now}
 use Rattle.answers.specs.Tests.{firstFrom}
 use borrow.Author.Needs.{needs}
-use Rattle.s2xv2_lists.proofs.first.first_from.Statement.{statement}
-use Rattle.s2xv2_lists.proofs.first.first_from.Tie as tie
+use Rattle.s2xv2_lists.proofs.list_b.first_from.Statement.{statement}
+use Rattle.s2xv2_lists.proofs.list_b.first_from.Tie as tie
 
 abbrev Inv-loop : tie.InvT-loop
 Inv-loop place tests i₀ at₀ i at = (i ≤ length tests) × (at ≡ place + i) × (firstFrom place tests ≡ firstFrom at (drop i tests))
