@@ -1,6 +1,7 @@
 // What one character of the text stands for.
 ghost use mathlib.Core.Path.{_≡_};
 ghost use lib.ListN.{length};
+ghost use Rattle.wire.specs.Flags.{when};
 ghost use Rattle.hex.specs.Glyph.{within, isBlank, glyphOf, digitIn, isOther};
 
 // A digit with its value, a blank, or anything else.
@@ -39,6 +40,17 @@ fn is_within(low: u8, high: u8, c: u8) -> bool
     true
 }
 
+// What a character that is no digit stands for.
+fn blank_or_other(c: u8) -> Glyph
+    ensures { λ r. ⌜ r ≡ when (isBlank c) Glyph.Blank Glyph.Other ⌝ }
+{
+    if is_blank(c) {
+        Glyph::Blank
+    } else {
+        Glyph::Other
+    }
+}
+
 // What the character stands for. A digit above 9 is a letter, large or small.
 pub fn glyph_of(c: u8) -> Glyph
     ensures { λ r. ⌜ r ≡ glyphOf c ⌝ }
@@ -52,10 +64,7 @@ pub fn glyph_of(c: u8) -> Glyph
     if is_within(b'a', b'f', c) {
         return Glyph::Digit(c - 87);
     }
-    if is_blank(c) {
-        return Glyph::Blank;
-    }
-    Glyph::Other
+    blank_or_other(c)
 }
 
 // How many digits a character is: one or none.

@@ -52,28 +52,21 @@ returns-3 c =
       sym (c .before .is-within3 .ensures) ∙ c .if3 .taken,
     )
 
-is-blank-requires : tie.Need-is-blank-requires
-is-blank-requires c κs = search needs
+blank-or-other-requires : tie.Need-blank-or-other-requires
+blank-or-other-requires c κs = search needs
 
 returns-4 : tie.Need-returns-4
 unfolding glyphOf
 returns-4 c =
+    let third = c .before in
+    let second = third .before .before in
+    let first = second .before .before in
     rw (
-      sym (c .before .before .before .before .before .before .before .is-within .ensures) ∙ c .before .before .before .before .before .before .if1 .left,
-      sym (c .before .before .before .before .before .is-within2 .ensures) ∙ c .before .before .before .before .if2 .left,
-      sym (c .before .before .before .is-within3 .ensures) ∙ c .before .before .if3 .left,
-      sym (c .before .is-blank .ensures) ∙ c .if4 .taken,
+      sym (first .before .is-within .ensures) ∙ first .if1 .left,
+      sym (second .before .is-within2 .ensures) ∙ second .if2 .left,
+      sym (third .before .is-within3 .ensures) ∙ third .if3 .left,
     )
-
-returns-5 : tie.Need-returns-5
-unfolding glyphOf
-returns-5 c =
-    rw (
-      sym (c .before .before .before .before .before .before .before .is-within .ensures) ∙ c .before .before .before .before .before .before .if1 .left,
-      sym (c .before .before .before .before .before .is-within2 .ensures) ∙ c .before .before .before .before .if2 .left,
-      sym (c .before .before .before .is-within3 .ensures) ∙ c .before .before .if3 .left,
-      sym (c .before .is-blank .ensures) ∙ c .if4 .left,
-    )
+    (c .blank-or-other .ensures)
 
 pub glyph-of-spec : {M : Type 1} → statement M
 glyph-of-spec =
@@ -88,6 +81,5 @@ glyph-of-spec =
     is-within-requires-3
     sub-t7
     returns-3
-    is-blank-requires
-    returns-4
-    returns-5)
+    blank-or-other-requires
+    returns-4)
