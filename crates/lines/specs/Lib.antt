@@ -1,3 +1,4 @@
 pub mod Out
 pub mod Number
 pub mod Line
+pub mod Digest

@@ -3,6 +3,7 @@ use crate::draw::fill;
 use crate::draw::mode_of;
 use crate::draw::next;
 use crate::draw::seed;
+use lines::put::put;
 
 // What the core asks for, and whether the other bits are set.
 struct Shape {
@@ -25,10 +26,12 @@ fn get(bytes: &[u8], i: usize) -> u8 {
     if i < bytes.len() { bytes[i] } else { 0 }
 }
 
-// Stores a byte where the buffer has the place, and nothing behind its end.
-pub(crate) fn put(bytes: &mut [u8], i: usize, b: u8) {
-    if i < bytes.len() {
+// Makes all bytes of a buffer the same.
+pub(crate) fn cover(bytes: &mut [u8], b: u8) {
+    let mut i = 0;
+    while i < bytes.len() {
         bytes[i] = b;
+        i += 1;
     }
 }
 
@@ -74,20 +77,6 @@ pub(crate) fn cut(case: u32, body: &mut [u8]) -> usize {
     ((case % 46) as usize) * 4 + 1
 }
 
-// A byte with one of its bits turned over.
-fn turned(b: u8, bit: u32) -> u8 {
-    let weight = [1u8, 2, 4, 8, 16, 32, 64, 128];
-    let w = weight[(bit % 8) as usize];
-    if w == 0 {
-        return b;
-    }
-    if b / w % 2 == 1 {
-        std::num::wrapping_sub_u8(b, w)
-    } else {
-        std::num::wrapping_add_u8(b, w)
-    }
-}
-
 // The walk over a body's bits: each one turned over alone, the others clear or set.
 pub(crate) fn bit(case: u32, body: &mut [u8]) -> usize {
     let s = case / 360;
@@ -103,7 +92,7 @@ pub(crate) fn bit(case: u32, body: &mut [u8]) -> usize {
     lay(asked, body, 45);
     let at = case % 360;
     let k = (at / 8) as usize;
-    put(body, k, turned(get(body, k), at % 8));
+    put(body, k, get(body, k) ^ (1 << (at % 8)));
     180
 }
 

@@ -1,5 +1,5 @@
 // The generator: a congruence modulo 2^32, of which only the high bits are used.
-use crate::body::put;
+use lines::put::put;
 
 // The state after one.
 pub(crate) fn next(x: u32) -> u32 {

@@ -32,11 +32,6 @@ fn print_name(set: u32) {
     ;
 }
 
-// The digest of a case that was run.
-fn digest_of(ran: u64) -> u32 {
-    (ran % 4_294_967_296) as u32
-}
-
 // The cell of its answer.
 fn cell_of(ran: u64) -> usize {
     (ran / 8_589_934_592) as usize
@@ -47,7 +42,7 @@ fn print_named(kind: &[u8], k: u32, t: &[u32; 5], ran: u64) {
     word(kind, k % 64 + 1);
     io::write_all(1, b":");
     told::print(t);
-    word(b"; ", digest_of(ran));
+    word(b"; ", digest::value(ran));
     io::write_all(1, b"\n");
 }
 
@@ -107,7 +102,7 @@ fn count_all(
         count(counts, cell_of(d));
         case += 1;
     }
-    digest_of(d)
+    digest::value(d)
 }
 
 // Runs a set and prints its counts and its digest.
@@ -141,7 +136,7 @@ fn number(a: u8, b: u8, c: u8, d: u8) -> u32 {
 // Prints the digest, unless the numbers are shown.
 fn show_digest(numbers: bool, ran: u64) {
     if !numbers {
-        digest::show(digest_of(ran));
+        digest::show(digest::value(ran));
     }
 }
 

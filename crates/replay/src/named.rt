@@ -1,7 +1,8 @@
 // The cases with a name: each row of the table of bodies at the edges, the errors that look right, and the edges of both
 // lists.
-use crate::body::put;
+use crate::body::cover;
 use crate::values::plain;
+use lines::put::put;
 
 // A body's length, and places and bytes of it that are not 0; a row ends with places 0.
 const BODIES: [[u16; 9]; 22] = [
@@ -94,15 +95,6 @@ fn made(n: u16) -> usize {
     (n as usize) * 4 + 1
 }
 
-// Makes a body all 0.
-fn zero(body: &mut [u8]) {
-    let mut i = 0;
-    while i < body.len() {
-        body[i] = 0;
-        i += 1;
-    }
-}
-
 // Row `k` of the bodies; there are 22.
 fn body_row(k: usize) -> [u16; 9] {
     if k < 22 {
@@ -114,7 +106,7 @@ fn body_row(k: usize) -> [u16; 9] {
 
 // Body `k` of the list.
 pub(crate) fn body(k: usize, body: &mut [u8]) -> usize {
-    zero(body);
+    cover(body, 0);
     let row = body_row(k);
     store(body, row[1], row[2]);
     store(body, row[3], row[4]);

@@ -1,5 +1,6 @@
 // One case of a set: what is asked of the library, and what goes into the digest.
 use crate::body;
+use crate::body::cover;
 use crate::digest::put;
 use crate::digest::put_bytes;
 use crate::made::record;
@@ -13,15 +14,6 @@ use crate::values::room;
 // A number as a size.
 fn size(v: u32) -> usize {
     v as usize
-}
-
-// What a buffer holds before it is written.
-fn clear(out: &mut [u8]) {
-    let mut i = 0;
-    while i < out.len() {
-        out[i] = 165;
-        i += 1;
-    }
 }
 
 // What the reader answers.
@@ -55,7 +47,7 @@ fn back(body: &[u8], out: &mut [u8]) -> [u32; 5] {
     let read = s2xv2_reader::parse(body);
     let record = read.body;
     let tail = s2xv2_reader::reserved_tail(body);
-    clear(out);
+    cover(out, 165);
     let answer = s2xv2_writer::serialize_into(record, tail, out);
     told(answer)
 }
@@ -119,7 +111,7 @@ fn measured(v: &[u32; 45], tail: &[u8]) -> [u32; 5] {
 // What the writer answers.
 fn written(v: &[u32; 45], tail: &[u8], out: &mut [u8]) -> [u32; 5] {
     let r = record(v);
-    clear(out);
+    cover(out, 165);
     let answer = s2xv2_writer::serialize_into(r, tail, out);
     told(answer)
 }

@@ -8,9 +8,9 @@ mod print;
 mod sample;
 mod stop;
 
+use lines::put::put;
 use print::word;
 use sample::fill;
-use sample::store;
 
 // How long the body of a case is, in a slot of `n` bytes.
 fn count_of(kind: u32, n: usize) -> usize {
@@ -30,8 +30,8 @@ fn count_of(kind: u32, n: usize) -> usize {
 // The body of a case: one with no conditional part, or one that asks for all of them.
 fn make_body(case: u32, kind: u32, count: usize, body: &mut [u8]) {
     fill(body, count, case % 65_536 + 7);
-    store(body, 4, if kind == 5 { 95 } else { 7 });
-    store(body, 5, if kind == 5 { 247 } else { 243 });
+    put(body, 4, if kind == 5 { 95 } else { 7 });
+    put(body, 5, if kind == 5 { 247 } else { 243 });
 }
 
 // Counts one answer.

@@ -2,11 +2,11 @@
 // refused by a step, and the slot stays as it was.
 use crate::print;
 use crate::sample::fill;
-use crate::sample::put_bytes;
-use crate::sample::store;
 use answers::option::OptionU8;
 use answers::option::OptionU32;
 use begin::Begun;
+use lines::digest::put_bytes;
+use lines::put::put;
 use s2xv2::mode::S2Xv2Mode;
 use s2xv2::record::S2Xv2SatelliteDeliverySystem;
 use s2xv2::superframe::OptionSuperframe;
@@ -59,12 +59,12 @@ fn lay(slot: &mut [u8], l: Layout) {
     let length = l.2;
     let end = (length as usize) + 2;
     fill(slot, n, length as u32);
-    store(slot, 0, l.1);
-    store(slot, 1, length);
-    store(slot, 2, l.3);
+    put(slot, 0, l.1);
+    put(slot, 1, length);
+    put(slot, 2, l.3);
     if end + 2 <= n {
-        store(slot, end, l.4);
-        store(slot, end + 1, ((n - end - 2) % 256) as u8);
+        put(slot, end, l.4);
+        put(slot, end + 1, ((n - end - 2) % 256) as u8);
     }
 }
 

@@ -2,16 +2,20 @@
 use crate::lent::step_lent;
 use crate::print::bit;
 use crate::print::number;
-use crate::sample::copy;
-use crate::sample::put;
-use crate::sample::put_bytes;
-use crate::sample::put_size;
 use answers::answer::Answer;
 use answers::answer::Refusal;
 use job::job::Job;
 use job::job::Stepped;
+use lines::digest::put;
+use lines::digest::put_bytes;
+use lines::put::copy;
 use s2xv2::record::S2Xv2SatelliteDeliverySystem;
 use slot::answer::SlotAnswer;
+
+// The digest with one size more.
+fn put_size(d: u32, n: usize) -> u32 {
+    put(d, (n % 4_294_967_296) as u32)
+}
 
 // The refusals that a slot or a begin gives here; any other is a number that is not there.
 fn put_refusal(d: u32, why: Refusal) -> u32 {
@@ -125,7 +129,7 @@ pub(crate) fn prepare(slot: &mut [u8], stored: bool) {
 
 // Stops a job after a number of stores, and puts what is then in the slot.
 pub(crate) fn put_stop(d: u32, start: &[u8], slot: &mut [u8], body: &[u8], made: usize) -> u32 {
-    copy(start, slot);
+    copy(slot, 0, start);
     let after = put_step(d, slot, body, made);
     put_bytes(put_reading(after, slot), slot)
 }

@@ -34,8 +34,8 @@ loop-less c = search needs
 loop-again : tie.Need-loop-again Inv-loop μ-loop
 loop-again c = search needs
 
-digest-of-requires : tie.Need-digest-of-requires Inv-loop μ-loop
-digest-of-requires c κs = search needs
+value-requires : tie.Need-value-requires Inv-loop μ-loop
+value-requires c κs = search needs
 
 same-length : tie.Need-same-length Inv-loop μ-loop
 same-length c = search needs
@@ -59,7 +59,7 @@ count-all-spec =
     add-case
     loop-less
     loop-again
-    digest-of-requires
+    value-requires
     same-length
     same-length-2
     returns)

@@ -28,8 +28,8 @@ next-requires-3 c κs = search needs
 high-byte-requires : tie.Need-high-byte-requires Inv-loop μ-loop
 high-byte-requires c κs = search needs
 
-store-requires : tie.Need-store-requires Inv-loop μ-loop
-store-requires c κs = search needs
+put-requires : tie.Need-put-requires Inv-loop μ-loop
+put-requires c κs = search needs
 
 add-i : tie.Need-add-i Inv-loop μ-loop
 add-i c = search needs
@@ -57,7 +57,7 @@ fill-spec =
     loop-holds
     next-requires-3
     high-byte-requires
-    store-requires
+    put-requires
     add-i
     loop-less
     loop-again

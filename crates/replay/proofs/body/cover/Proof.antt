@@ -1,23 +1,23 @@
--- `replay::named::zero` is safe and ends. The buffer keeps its length; the measure is what is left of the count.
+-- `replay::body::cover` is safe and ends. The buffer keeps its length; the measure is what is left of the buffer.
 -- Assumes nothing.
 use Prim.Native.Nat.{_-_}
 use mathlib.Core.Path.{_≡_}
 use borrow.Author.Needs.{needs}
 use lib.ListN.{length}
-use Rattle.replay.proofs.named.zero.Statement.{statement}
-use Rattle.replay.proofs.named.zero.Tie as tie
+use Rattle.replay.proofs.body.cover.Statement.{statement}
+use Rattle.replay.proofs.body.cover.Tie as tie
 
 abbrev Inv-loop : tie.InvT-loop
-Inv-loop body₀ i₀ body i = length body ≡ length body₀
+Inv-loop bytes₀ b i₀ bytes i = length bytes ≡ length bytes₀
 
 abbrev μ-loop : tie.MeasureT-loop
-μ-loop body₀ i₀ body i = length body₀ - i
+μ-loop bytes₀ b i₀ bytes i = length bytes₀ - i
 
 loop-holds : tie.Need-loop-holds Inv-loop μ-loop
 loop-holds c = search needs
 
-slice-write-body : tie.Need-slice-write-body Inv-loop μ-loop
-slice-write-body c = search needs
+slice-write-bytes : tie.Need-slice-write-bytes Inv-loop μ-loop
+slice-write-bytes c = search needs
 
 add-i : tie.Need-add-i Inv-loop μ-loop
 add-i c = search needs
@@ -34,14 +34,14 @@ same-length c = search needs
 returns : tie.Need-returns Inv-loop μ-loop
 returns c = search needs
 
-pub zero-spec : {M : Type 1} → statement M
-zero-spec =
+pub cover-spec : {M : Type 1} → statement M
+cover-spec =
     tie.close
     (tie.spec
     Inv-loop
     μ-loop
     loop-holds
-    slice-write-body
+    slice-write-bytes
     add-i
     loop-less
     loop-again
