@@ -106,49 +106,13 @@ pub(crate) fn plain(mode: u32, full: u32) -> [u32; 45] {
     v
 }
 
-// The weight of a bit in a byte.
-fn power(bit: u32) -> u8 {
-    match bit % 8 {
-        0 => 1,
-        1 => 2,
-        2 => 4,
-        3 => 8,
-        4 => 16,
-        5 => 32,
-        6 => 64,
-        _ => 128,
-    }
-}
-
-// A weight in one of four bytes.
-fn scaled(w: u8, byte: u32) -> u32 {
-    match byte % 4 {
-        0 => w as u32,
-        1 => (w as u32) * 256,
-        2 => (w as u32) * 65_536,
-        _ => (w as u32) * 16_777_216,
-    }
-}
-
 // The weight of a bit, by its number modulo the bits of a type.
 fn weight(bit: u32, largest: u32) -> u32 {
     match largest {
         1 => 1,
-        3 => 1 + bit % 2,
-        255 => scaled(power(bit), 0),
-        _ => scaled(power(bit), bit / 8),
-    }
-}
-
-// A number with the bit of a weight turned over.
-fn turned(v: u32, weight: u32) -> u32 {
-    if weight == 0 {
-        return v;
-    }
-    if v / weight % 2 == 1 {
-        std::num::wrapping_sub_u32(v, weight)
-    } else {
-        std::num::wrapping_add_u32(v, weight)
+        3 => 1 << (bit % 2),
+        255 => 1 << (bit % 8),
+        _ => 1 << (bit % 32),
     }
 }
 
@@ -158,7 +122,7 @@ pub(crate) fn walk(case: u32) -> [u32; 45] {
     let full = case / 21_504 % 2;
     let mut values = plain(case / 1344 % 16, full);
     let r = row(field);
-    values[field] = turned(values[field], weight(case / 42 % 32, r[0]));
+    values[field] = values[field] ^ weight(case / 42 % 32, r[0]);
     values[42] = full * 3;
     values[43] = 3;
     values
