@@ -14,6 +14,8 @@ mod shown;
 mod told;
 mod values;
 
+use wire::number::be32;
+
 // Prints a text and a number.
 fn word(text: &[u8], n: u32) {
     io::write_all(1, text);
@@ -128,9 +130,13 @@ fn all(body: &mut [u8], out: &mut [u8], tail: &[u8]) {
     }
 }
 
-// Four bytes of a question.
-fn number(a: u8, b: u8, c: u8, d: u8) -> u32 {
-    (a as u32) * 16_777_216 + (b as u32) * 65_536 + (c as u32) * 256 + (d as u32)
+// The four bytes of a question from `at` on, as a number.
+fn number(q: &[u8; 10], at: usize) -> u32 {
+    if at < 7 {
+        be32(q[at], q[at + 1], q[at + 2], q[at + 3])
+    } else {
+        0
+    }
 }
 
 // Prints the digest, unless the numbers are shown.
@@ -160,11 +166,11 @@ fn main() {
     let mut q = [0u8; 10];
     let n = io::read_full(0, &mut q);
     if n == 10 {
-        let from = number(q[2], q[3], q[4], q[5]);
-        let to = number(q[6], q[7], q[8], q[9]);
+        let from = number(&q, 2);
+        let to = number(&q, 6);
         show(
             q[0] == 2,
-            number(0, 0, 0, q[1]),
+            be32(0, 0, 0, q[1]),
             from,
             to,
             &mut body,
