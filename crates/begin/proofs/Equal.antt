@@ -15,5 +15,6 @@ same-begun a b e =
     ∙ ap {B = Begun} (λ (x : Begins). record { answer = b .answer; job = x .job }) e
 
 -- `begin`
-pub begin-equal : (s : List ℕ) (r : S2Xv2SatelliteDeliverySystem) (tail : List ℕ) (a b : Begun) → begunSeen a ≡ beginOf s r tail → begunSeen b ≡ beginOf s r tail → a ≡ b
+pub begin-equal : (s : List ℕ) (r : S2Xv2SatelliteDeliverySystem) (tail : List ℕ) (a b : Begun)
+    → begunSeen a ≡ beginOf s r tail → begunSeen b ≡ beginOf s r tail → a ≡ b
 begin-equal s r tail a b p q = same-begun a b (p ∙ sym q)

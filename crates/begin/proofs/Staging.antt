@@ -1,20 +1,32 @@
 -- The staged descriptor: the envelope, the body as the writer writes it into zeros, and the zeros that it leaves, are the descriptor with 0 after it.
+-- So it is in zeros that are lent (`stages`), and what is staged so and fits is begun (`begun`).
 -- Assumes nothing.
 use mathlib.Core.Path.{_≡_, sym, ap, _∙_}
+use mathlib.Core.Bool.{Bool, true, false}
 use mathlib.Core.List.{List, [], _∷_, _++_, append-nil}
 use Prim.Native.Nat.{ℕ, suc, _+_, _-_, _≤_}
 use native.Mathlib.Omega.{arith}
-use lib.ListN.{length, drop, replicate, length-replicate, replicate-append-replicate}
+use lib.ListN.{length, drop, set, replicate, length-replicate, replicate-append-replicate}
 use lib.Seq.{drop-at}
+use lib.Dec.{ltb}
+use borrow.Rule.Slice.PartMut.{midOf, putMid}
+use Rattle.wire.specs.Flags.{when}
+use Rattle.answers.specs.Answer.{saturated, numberOf}
 use Rattle.s2xv2.specs.declared.record.S2Xv2SatelliteDeliverySystem.{S2Xv2SatelliteDeliverySystem}
 use Rattle.s2xv2.specs.Encode.{encode, encodedLength}
 use Rattle.s2xv2.specs.Write.{writeTold, written}
 use Rattle.s2xv2.proofs.Whole.{encode-length}
+use Rattle.s2xv2.proofs.Written.{Writable, accepted-writable, told-written}
+use Rattle.s2xv2_plain.specs.Output.{answerOut}
+use Rattle.s2xv2_plain.specs.declared.types.PlainAnswer.{PlainAnswer}
+use Rattle.s2xv2_plain.proofs.Answers.{told-as-is}
 use Rattle.form.specs.Envelope.{tag, extension}
+use Rattle.form.specs.Form.{goodForm}
+use Rattle.form.proofs.GoodForm.{form-size}
 use Rattle.job.specs.declared.job.Job.{Job}
-use Rattle.job.specs.Job.{jobOf}
-use Rattle.begin.specs.Begin.{padded, newJob, descriptorOf, Sized, stageTold, Begins, answered}
-use Rattle.begin.proofs.Telling.{accepts, told-stores}
+use Rattle.job.specs.Job.{jobOf, fitsIn}
+use Rattle.begin.specs.Begin.{padded, newJob, sizeOf, descriptorOf, Sized, Staged, stageTold, beginTold, Begins, answered, beginOf}
+use Rattle.begin.proofs.Telling.{accepts, told-stores, told-fits, told-fit}
 
 drop-zeros : (e m : ℕ) → e ≤ m → drop {A = ℕ} e (replicate m 0) ≡ replicate (m - e) 0
 drop-zeros e m h =
@@ -23,38 +35,105 @@ drop-zeros e m h =
     ∙ ap (drop {A = ℕ} e) (sym (replicate-append-replicate e (m - e) 0))
     ∙ drop-at {A = ℕ} (replicate e 0) (replicate (m - e) 0) e (length-replicate e 0)
 
+-- a number that is told as 0 is 0
+none : (n : ℕ) → saturated n ≡ 0 → n ≡ 0
+none n e = go (ltb 65535 n) e
+  where
+    go : (c : Bool) → when c 65535 n ≡ 0 → n ≡ 0
+    go true d = absurd (omega (arith, d))
+    go false d = d
+
 -- what the writer leaves of a buffer that it accepts
 module _ (r : S2Xv2SatelliteDeliverySystem) (tail : List ℕ) where
   writes : (m : ℕ) (buf : List ℕ) → 0 ∷ m ∷ [] ≡ writeTold r tail (length buf) → written r tail buf ≡ encode r tail ++ drop (encodedLength r tail) buf
   unfolding written
   writes m buf e = rw (← e)
 
-module _ {n d : ℕ} {r : S2Xv2SatelliteDeliverySystem} {tail : List ℕ} (S : Sized n d r tail) (fits : d ≤ n) where
-  pub small : encodedLength r tail ≤ 254
-  small = let s = S .slot in let e = S .size in omega arith
-
+-- a descriptor of d bytes that fits the staged ones
+module _ (d : ℕ) (r : S2Xv2SatelliteDeliverySystem) (tail : List ℕ) (size : d ≡ sizeOf r tail) (small : encodedLength r tail ≤ 254) where
   staged-is : (body : List ℕ) → body ≡ encode r tail ++ drop (encodedLength r tail) (replicate 254 0)
       → tag ∷ (d - 2) ∷ extension ∷ (body ++ []) ≡ padded (descriptorOf r tail)
   unfolding padded
   staged-is body e =
       let l = encode-length r tail in
-      let s = small in
-      let z = S .size in
       let q : d - 2 ≡ suc (length (encode r tail)) = omega arith in
       let k : 257 - length (descriptorOf r tail) ≡ 254 - encodedLength r tail = omega arith in
       rw (append-nil, e, drop-zeros (encodedLength r tail) 254 small, q, k)
 
   size-is : d ≡ length (descriptorOf r tail)
-  size-is = let l = encode-length r tail in let z = S .size in omega arith
+  size-is = let l = encode-length r tail in omega arith
 
-  job-is : (body : List ℕ) → body ≡ encode r tail ++ drop (encodedLength r tail) (replicate 254 0)
-      → jobOf (tag ∷ (d - 2) ∷ extension ∷ (body ++ [])) n d 0 ≡ newJob n (descriptorOf r tail)
-  job-is body e =
-      ap {B = Job} (λ (t : List ℕ). jobOf t n d 0) (staged-is body e) ∙ ap {B = Job} (λ (k : ℕ). jobOf (padded (descriptorOf r tail)) n k 0) size-is
+  job-is : (n : ℕ) → jobOf (padded (descriptorOf r tail)) n d 0 ≡ newJob n (descriptorOf r tail)
+  job-is n = ap {B = Job} (λ (k : ℕ). jobOf (padded (descriptorOf r tail)) n k 0) size-is
+
+module _ {n d : ℕ} {r : S2Xv2SatelliteDeliverySystem} {tail : List ℕ} (S : Sized n d r tail) (fits : d ≤ n) where
+  pub small : encodedLength r tail ≤ 254
+  small = let s = S .slot in let e = S .size in omega arith
 
   -- where the writer accepts, the job is begun
   pub staged-accepted : (m : ℕ) (body : List ℕ) → 0 ∷ m ∷ [] ≡ writeTold r tail 254 → body ≡ written r tail (replicate 254 0)
       → _≡_ {A = Begins} (record { told = 0 ∷ (n + 2) ∷ []; job = jobOf (tag ∷ (d - 2) ∷ extension ∷ (body ++ [])) n d 0 }) (answered (stageTold n r) n r tail)
   staged-accepted m body e w =
+      let bytes = staged-is d r tail (S .size) small body (w ∙ writes r tail m (replicate 254 0) e) in
       accepts n r tail (stageTold n r) (n + 2) _ (told-stores n r tail 254 (S .consistent) (S .within) small m e)
-      (job-is body (w ∙ writes r tail m (replicate 254 0) e))
+      (ap {B = Job} (λ (t : List ℕ). jobOf t n d 0) bytes ∙ job-is d r tail (S .size) small n)
+
+-- ---- staged in zeros that are lent
+
+module _ (z : List ℕ) (zeros : z ≡ replicate 257 0) where
+  pub lent-length : length z ≡ 257
+  lent-length = ap length zeros
+
+  lent-part : midOf 3 (length z - 3) z ≡ replicate 254 0
+  lent-part = ap (λ (l : List ℕ). midOf 3 (length l - 3) l) zeros
+
+  pub laid-length : (body : List ℕ) → 3 ≤ length (putMid 3 (length z - 3) z body)
+  laid-length body = rw zeros (omega arith)
+
+  laid : (body : List ℕ) (v : ℕ) → set (set (set (putMid 3 (length z - 3) z body) 0 tag) 1 v) 2 extension ≡ tag ∷ v ∷ extension ∷ (body ++ [])
+  laid body v = ap (λ (l : List ℕ). set (set (set (putMid 3 (length l - 3) l body) 0 tag) 1 v) 2 extension) zeros
+
+  module _ (r : S2Xv2SatelliteDeliverySystem) (tail body : List ℕ) (a : PlainAnswer)
+      (told : a ≡ answerOut (writeTold r tail (length (midOf 3 (length z - 3) z))))
+      (wrote : body ≡ written r tail (midOf 3 (length z - 3) z)) (zero : a .number ≡ 0) where
+    number : numberOf (writeTold r tail 254) ≡ 0
+    number =
+        none (numberOf (writeTold r tail 254))
+        (ap (λ (l : List ℕ). answerOut (writeTold r tail (length l)) .number) (sym lent-part) ∙ ap (λ (a : PlainAnswer). a .number) (sym told) ∙ zero)
+
+    can : Writable r tail 254
+    can = accepted-writable r tail 254 number
+
+    tells : writeTold r tail 254 ≡ 0 ∷ encodedLength r tail ∷ []
+    tells = told-written r tail (can .consistent) (can .within) 254 (can .fits) (can .carried)
+
+    pub length-told : (a .first ≡ encodedLength r tail) × (encodedLength r tail ≤ 254)
+    length-told =
+        let h = can .fits in (
+          ap (λ (a : PlainAnswer). a .first) told ∙ ap (λ (l : List ℕ). answerOut (writeTold r tail (length l)) .first) lent-part
+              ∙ ap (λ (l : List ℕ). answerOut l .first) tells ∙ told-as-is (encodedLength r tail) (omega arith),
+          h,
+        )
+
+    pub stages : Staged (a .first + 3) r tail (set (set (set (putMid 3 (length z - 3) z body) 0 tag) 1 (a .first + 1)) 2 extension)
+    stages =
+        let f = length-told .0 in
+        let s : a .first + 3 ≡ sizeOf r tail = omega arith in
+        let v : a .first + 1 ≡ a .first + 3 - 2 = omega arith in
+        let w = wrote ∙ ap (written r tail) lent-part ∙ writes r tail (encodedLength r tail) (replicate 254 0) (sym tells) in
+        let b = staged-is (a .first + 3) r tail s (can .fits) body w in
+        record { size = s; written = number; bytes = laid body (a .first + 1) ∙ ap (λ (v : ℕ). tag ∷ v ∷ extension ∷ (body ++ [])) v ∙ b }
+
+-- what is staged and fits a slot in good form is begun
+pub begun : (s : List ℕ) (r : S2Xv2SatelliteDeliverySystem) (tail staged : List ℕ) (d : ℕ) → goodForm s ≡ true → Staged d r tail staged
+    → fitsIn d (length s) ≡ true → _≡_ {A = Begins} (record { told = 0 ∷ (length s + 2) ∷ []; job = jobOf staged (length s) d 0 }) (beginOf s r tail)
+unfolding beginOf
+begun s r tail staged d form S fits =
+    let n = length s in
+    let can = accepted-writable r tail 254 (S .written) in
+    let sized : Sized n d r tail = record { slot = form-size s form; size = S .size; within = can .within; consistent = can .consistent } in
+    let tells = told-written r tail (can .consistent) (can .within) 254 (can .fits) (can .carried) in
+    let told =
+    told-stores n r tail 254 (can .consistent) (can .within) (can .fits) (encodedLength r tail) (sym tells)
+    ∙ told-fits sized fits ∙ told-fit s r tail form (can .consistent) (can .within) in
+    accepts n r tail (beginTold s r tail) (n + 2) _ told (ap {B = Job} (λ (t : List ℕ). jobOf t n d 0) (S .bytes) ∙ job-is d r tail (S .size) (can .fits) n)

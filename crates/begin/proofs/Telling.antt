@@ -1,13 +1,15 @@
 -- What begin tells, by the way through the code: each test of the definition is one that the code or the writer has made, and a refusal is never number 0.
+-- An answer goes with its job (`refuses`, `accepts`). Told are 6 (`told-slot`), 3 and 2 as the length call tells them (`told-length`, `told-fit`,
+-- `length-accepted`), 7 (`fit-told`, `told-no-fit`, `told-fits`), and 4 as the writer tells it (`told-field`, `told-stores`).
 -- Assumes nothing.
 use mathlib.Core.Path.{_≡_, refl, sym, ap, _∙_}
-use mathlib.Core.Bool.{Bool, true, false}
+use mathlib.Core.Bool.{Bool, true, false, not}
 use mathlib.Core.List.{List, [], _∷_}
 use Prim.Native.Nat.{ℕ, _+_, _≤_}
 use native.Mathlib.Omega.{arith}
-use borrow.Author.Tests.{le-ltb, ltb-false, eqb-false}
+use borrow.Author.Tests.{le-ltb, ltb-false, eqb-true, eqb-false}
 use lib.ListN.{length}
-use lib.Dec.{ltb}
+use lib.Dec.{eqb, ltb}
 use Rattle.wire.specs.Flags.{when}
 use Rattle.s2xv2.specs.declared.record.S2Xv2SatelliteDeliverySystem.{S2Xv2SatelliteDeliverySystem}
 use Rattle.answers.specs.declared.answer.Refusal.{Refusal}
@@ -20,8 +22,9 @@ use Rattle.s2xv2.specs.Write.{writeTold}
 use Rattle.answers.proofs.Answers.{refused-number}
 use Rattle.form.specs.Form.{goodForm}
 use Rattle.job.specs.declared.job.Job.{Job}
+use Rattle.job.specs.Job.{fitsIn}
 use Rattle.job.proofs.Fairness.{facts-fits, not-fits}
-use Rattle.begin.specs.Begin.{newJob, noJob, sizeOf, descriptorOf, Sized, stageTold, fitTold, beginTold, Begins, answered}
+use Rattle.begin.specs.Begin.{newJob, noJob, descriptorOf, Sized, stageTold, fitTold, beginTold, Begins, answered}
 
 -- ---- an answer and its job
 module _ (n : ℕ) (r : S2Xv2SatelliteDeliverySystem) (tail : List ℕ) where
@@ -54,8 +57,8 @@ module _ (s : List ℕ) (r : S2Xv2SatelliteDeliverySystem) (tail : List ℕ) whe
   pub told-length : goodForm s ≡ true → (why : Refusal) → numbers why ≡ lengthTold r tail → numbers why ≡ beginTold s r tail
   unfolding beginTold lengthTold
   told-length f why e =
-      rw f
-      (two-refused (ltb 0 (inconsistency r)) (ltb 4096 (encodedLength r tail)) why (3 ∷ inconsistency r ∷ []) (2 ∷ saturated (encodedLength r tail) ∷ []) _ (encodedLength r tail ∷ []) e)
+      let n = encodedLength r tail in
+      rw f (two-refused (ltb 0 (inconsistency r)) (ltb 4096 n) why (3 ∷ inconsistency r ∷ []) (2 ∷ saturated n ∷ []) _ (n ∷ []) e)
 
   pub told-fit : goodForm s ≡ true → inconsistency r ≡ 0 → encodedLength r tail ≤ 4096 → fitTold (length s) r tail ≡ beginTold s r tail
   unfolding beginTold
@@ -77,17 +80,27 @@ length-accepted r tail m e =
     (omega arith, (ltb-false 4096 (encodedLength r tail) (b .0), q))
 
 -- ---- 7
-module _ {n d : ℕ} {r : S2Xv2SatelliteDeliverySystem} {tail : List ℕ} (S : Sized n d r tail) where
-  pub told-no-fit : ((d ≤ n) × (d + 1 ≡ n → ⊥) → ⊥) → 7 ∷ d ∷ [] ≡ fitTold n r tail
-  unfolding fitTold
-  told-no-fit h = rw (S .size, not-fits (sizeOf r tail) n (rw (S .size) at h))
 
-  pub told-fits : d ≤ n → (d + 1 ≡ n → ⊥) → stageTold n r ≡ fitTold n r tail
+-- where it is not larger, the gap decides
+pub fit-told : (d n : ℕ) → d ≤ n → not (eqb (d + 1) n) ≡ fitsIn d n
+fit-told d n h = go (eqb (d + 1) n) refl
+  where
+    go : (t : Bool) → eqb (d + 1) n ≡ t → not t ≡ fitsIn d n
+    go true e = sym (not-fits d n (λ f. f .1 (eqb-true (d + 1) n e)))
+    go false e = sym (facts-fits d n (h, eqb-false (d + 1) n e))
+
+module _ {n d : ℕ} {r : S2Xv2SatelliteDeliverySystem} {tail : List ℕ} (S : Sized n d r tail) where
+  pub told-no-fit : fitsIn d n ≡ false → 7 ∷ d ∷ [] ≡ fitTold n r tail
   unfolding fitTold
-  told-fits l g = rw (facts-fits (sizeOf r tail) n (rw (S .size) at l, rw (S .size) at g))
+  told-no-fit h = rw (S .size, rw (S .size) at h)
+
+  pub told-fits : fitsIn d n ≡ true → stageTold n r ≡ fitTold n r tail
+  unfolding fitTold
+  told-fits h = rw (rw (S .size) at h)
 
 -- ---- 4, as the writer tells it where 3, 2 and 5 are passed
-module _ (n : ℕ) (r : S2Xv2SatelliteDeliverySystem) (tail : List ℕ) (room : ℕ) (a : inconsistency r ≡ 0) (l : encodedLength r tail ≤ 4096) (h : encodedLength r tail ≤ room) where
+module _ (n : ℕ) (r : S2Xv2SatelliteDeliverySystem) (tail : List ℕ) (room : ℕ)
+    (a : inconsistency r ≡ 0) (l : encodedLength r tail ≤ 4096) (h : encodedLength r tail ≤ room) where
   write-told : writeTold r tail room ≡ when (ltb 0 (unwritable r)) (4 ∷ unwritable r ∷ []) (0 ∷ encodedLength r tail ∷ [])
   unfolding writeTold
   write-told = rw (a, le-ltb 4096 (encodedLength r tail) l, le-ltb room (encodedLength r tail) h)

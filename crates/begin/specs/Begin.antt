@@ -6,6 +6,7 @@
 -- `sizeOf`        how many bytes the descriptor of a record and its tail takes
 -- `descriptorOf`  the bytes of that descriptor
 -- `Sized`         what the private functions require of the sizes, and of the record
+-- `Staged`        a descriptor that the writer accepts is staged, and this is its size
 -- `stageTold`     what is told once the descriptor is known to fit
 -- `fitTold`       what is told once its length is known
 -- `beginTold`     what is told of any slot, record and tail
@@ -13,6 +14,7 @@
 -- `begunSeen`     that of what the call returns
 -- `answered`      that of what is told, with the job or `noJob`
 -- `beginOf`       what begin answers for a slot, a record and its tail
+-- `sizesOf`       the numbers of a job, as they cross
 use Prim.Native.Nat.{ℕ, _+_, _-_, _≤_}
 use mathlib.Core.Path.{_≡_}
 use mathlib.Core.List.{List, [], _∷_, _++_}
@@ -26,6 +28,7 @@ use Rattle.answers.specs.declared.answer.Answer.the-variants as A
 use Rattle.s2xv2.specs.Encode.{encode, encodedLength}
 use Rattle.s2xv2.specs.ListA.{inconsistency}
 use Rattle.s2xv2.specs.ListB.{unwritable}
+use Rattle.s2xv2.specs.Write.{writeTold}
 use Rattle.form.specs.Envelope.{envelope, envelopeSize}
 use Rattle.form.specs.Form.{goodForm}
 use Rattle.job.specs.declared.job.Job.{Job}
@@ -61,6 +64,12 @@ pub record Sized (n d : ℕ) (r : S2Xv2SatelliteDeliverySystem) (tail : List ℕ
   pub within : encodedLength r tail ≤ 4096
   pub consistent : inconsistency r ≡ 0
 
+-- a descriptor of d bytes that the writer accepts stands in the staged bytes: what the private functions promise
+pub record Staged (d : ℕ) (r : S2Xv2SatelliteDeliverySystem) (tail staged : List ℕ) : Type 0 where
+  pub size : d ≡ sizeOf r tail
+  pub written : numberOf (writeTold r tail 254) ≡ 0
+  pub bytes : staged ≡ padded (descriptorOf r tail)
+
 -- what is told once the descriptor is known to fit a slot of n bytes: 4, else accepted with the number of stores
 unfoldable pub stageTold : ℕ → S2Xv2SatelliteDeliverySystem → List ℕ
 stageTold n r = when (ltb 0 (unwritable r)) (numbers (R.Field (unwritable r))) (told (A.Accepted (n + 2)))
@@ -92,3 +101,7 @@ answered told n r tail = record { told = told; job = when (eqb (numberOf told) 0
 -- WHAT BEGIN ANSWERS for a slot, a record and its tail
 unfoldable pub beginOf : List ℕ → S2Xv2SatelliteDeliverySystem → List ℕ → Begins
 beginOf s r tail = answered (beginTold s r tail) (length s) r tail
+
+-- its slot size, its descriptor size, and the stores made
+abbrev pub sizesOf : Job → List ℕ
+sizesOf j = j .«slot_size» ∷ j .«descriptor_size» ∷ j .«stores_made» ∷ []

@@ -2,9 +2,12 @@
 ghost use mathlib.Core.Path.{_≡_};
 ghost use mathlib.Core.List.{[], _∷_};
 ghost use Prim.Native.Nat.{_+_, _≤_};
+ghost use lib.ListN.{replicate};
 ghost use Rattle.answers.specs.Answer.{numbers};
-ghost use Rattle.job.specs.Job.{jobOf};
-ghost use Rattle.begin.specs.Begin.{Sized, noJob, fitTold, stageTold, begunSeen, answered, beginOf};
+ghost use Rattle.job.specs.Job.{jobOf, fitsIn};
+ghost use Rattle.s2xv2_plain.specs.Input.{meant};
+ghost use Rattle.s2xv2_plain.specs.Output.{answerOut};
+ghost use Rattle.begin.specs.Begin.{Sized, noJob, fitTold, stageTold, begunSeen, answered, beginOf, sizesOf, stagedSize, Staged};
 use answers::answer::Answer;
 use answers::answer::Refusal;
 use form::envelope::EXTENSION;
@@ -12,6 +15,11 @@ use form::envelope::TAG;
 use form::good::in_form;
 use job::job::Job;
 use s2xv2::record::S2Xv2SatelliteDeliverySystem;
+use s2xv2_plain::input::of_plain;
+use s2xv2_plain::output::accepted;
+use s2xv2_plain::output::answer_out;
+use s2xv2_plain::types::PlainAnswer;
+use s2xv2_writer::serialize_plain;
 
 // The answer, and the job: where begin is refused all of its bytes and numbers are 0, and step refuses it.
 pub struct Begun {
@@ -43,7 +51,7 @@ fn refused(why: Refusal) -> Begun
 }
 
 // The job that stores the staged descriptor of `d` bytes in a slot of `n`.
-fn accepted(staged: [u8; 257], n: usize, d: usize) -> Begun
+fn job_of(staged: [u8; 257], n: usize, d: usize) -> Begun
     requires { ⌜ n ≤ 257 ⌝ }
     ensures { λ b. ⌜ begunSeen b ≡ record { told = 0 ∷ (n + 2) ∷ []; job = jobOf staged n d 0 } ⌝ }
 {
@@ -70,23 +78,31 @@ fn stage(n: usize, d: usize, r: S2Xv2SatelliteDeliverySystem, reserved_tail: &[u
     staged[2] = EXTENSION;
     let answer = s2xv2_writer::serialize_into(r, reserved_tail, &mut staged[3..]);
     match answer {
-        Answer::Accepted(_) => accepted(staged, n, d),
+        Answer::Accepted(_) => job_of(staged, n, d),
         Answer::Refused(why) => refused(why),
     }
 }
 
-// Refuses a descriptor of `d` bytes that is larger than the slot, or exactly one byte smaller.
+// Whether a descriptor of `d` bytes fits a slot of `n`: it is not larger, and not exactly one byte smaller.
+fn is_fit(d: usize, n: usize) -> bool
+    requires { ⌜ n ≤ 257 ⌝ }
+    ensures { λ r. ⌜ r ≡ fitsIn d n ⌝ }
+{
+    if n < d {
+        return false;
+    }
+    d + 1 != n
+}
+
+// Refuses a descriptor of `d` bytes that does not fit the slot of `n`.
 fn fit(n: usize, d: usize, r: S2Xv2SatelliteDeliverySystem, reserved_tail: &[u8]) -> Begun
     requires { ⌜ Sized n d r (now «reserved_tail») ⌝ }
     ensures { λ b. ⌜ begunSeen b ≡ answered (fitTold n r (now («reserved_tail» .entry))) n r (now («reserved_tail» .entry)) ⌝ }
 {
-    if n < d {
-        return refused(Refusal::NoFit { size: d });
+    if is_fit(d, n) {
+        return stage(n, d, r, reserved_tail);
     }
-    if d + 1 == n {
-        return refused(Refusal::NoFit { size: d });
-    }
-    stage(n, d, r, reserved_tail)
+    refused(Refusal::NoFit { size: d })
 }
 
 // A job that is to store the record and its tail in the slot. Stores nothing. Refuses a slot that is not in good form, a record that contradicts itself, an
@@ -103,4 +119,68 @@ pub fn begin(slot: &[u8], r: S2Xv2SatelliteDeliverySystem, reserved_tail: &[u8])
     } else {
         refused(Refusal::Slot)
     }
+}
+
+// Stages the descriptor of the record that plain numbers mean in zeros, and answers its size; or answers 0, where the writer refuses it.
+fn stage_plain(w: &[u32; 10], b: &[u8; 36], reserved_tail: &[u8], staged: &mut [u8]) -> usize
+    requires { ⌜ now staged ≡ replicate stagedSize 0 ⌝ }
+    ensures { λ d. ⌜ ((d ≡ 0 → ⊥) → Staged d (meant (now (w .entry)) (now (b .entry))) (now («reserved_tail» .entry)) (now (staged .exit))) ⌝ }
+{
+    let answer = serialize_plain(w, b, reserved_tail, &mut staged[3..]);
+    if answer.number == 0 {
+        let length = answer.first;
+        staged[0] = TAG;
+        staged[1] = (length + 1) as u8;
+        staged[2] = EXTENSION;
+        return (length as usize) + 3;
+    }
+    0
+}
+
+// `begin` of the record that plain numbers mean, into a job that is lent, the long way.
+fn begin_judged(
+    slot: &[u8],
+    w: &[u32; 10],
+    b: &[u8; 36],
+    reserved_tail: &[u8],
+    staged: &mut [u8; 257],
+    sizes: &mut [usize; 3],
+) -> PlainAnswer
+    ensures answer { λ a. ⌜ a ≡ answerOut (beginOf (now (slot .entry)) (meant (now (w .entry)) (now (b .entry))) (now («reserved_tail» .entry)) .told) ⌝ }
+    ensures bytes { λ _. ⌜ now (staged .exit) ≡ beginOf (now (slot .entry)) (meant (now (w .entry)) (now (b .entry))) (now («reserved_tail» .entry)) .job .staged ⌝ }
+    ensures numbers { λ _. ⌜ now (sizes .exit) ≡ sizesOf (beginOf (now (slot .entry)) (meant (now (w .entry)) (now (b .entry))) (now («reserved_tail» .entry)) .job) ⌝ }
+{
+    let begun = begin(slot, of_plain(w, b), reserved_tail);
+    let answer = begun.answer;
+    let job = begun.job;
+    let bytes = job.staged;
+    *staged = bytes;
+    *sizes = [job.slot_size, job.descriptor_size, job.stores_made];
+    answer_out(answer)
+}
+
+// `begin` of the record that plain numbers mean, into a job that is lent: its staged bytes, and its slot size, its descriptor size and the stores made. One
+// that passes the writer's quick tests and fits is judged and written once.
+pub fn begin_plain(
+    slot: &[u8],
+    w: &[u32; 10],
+    b: &[u8; 36],
+    reserved_tail: &[u8],
+    staged: &mut [u8; 257],
+    sizes: &mut [usize; 3],
+) -> PlainAnswer
+    ensures answer { λ a. ⌜ a ≡ answerOut (beginOf (now (slot .entry)) (meant (now (w .entry)) (now (b .entry))) (now («reserved_tail» .entry)) .told) ⌝ }
+    ensures bytes { λ _. ⌜ now (staged .exit) ≡ beginOf (now (slot .entry)) (meant (now (w .entry)) (now (b .entry))) (now («reserved_tail» .entry)) .job .staged ⌝ }
+    ensures numbers { λ _. ⌜ now (sizes .exit) ≡ sizesOf (beginOf (now (slot .entry)) (meant (now (w .entry)) (now (b .entry))) (now («reserved_tail» .entry)) .job) ⌝ }
+{
+    if in_form(slot) {
+        let n = slot.len();
+        *staged = [0u8; 257];
+        let d = stage_plain(w, b, reserved_tail, staged);
+        if (d != 0) && is_fit(d, n) {
+            *sizes = [n, d, 0];
+            return accepted((n + 2) as u16);
+        }
+    }
+    begin_judged(slot, w, b, reserved_tail, staged, sizes)
 }

@@ -17,7 +17,8 @@ use Rattle.s2xv2_reader.proofs.Laws.{rest}
 use Rattle.form.specs.Envelope.{stuffingTag}
 use Rattle.form.specs.Form.{byteAt, bodyIn, goodForm}
 use Rattle.slot.specs.Read.{placed, showsBody, showsEmpty, showsNone, shown}
-use Rattle.capi.specs.Part.{partIn, noPart, tailPart, toldPart, slotPart}
+use Rattle.slot.specs.Part.{noPart, toldPart, slotPart}
+use Rattle.capi.specs.Part.{partIn, tailPart}
 
 pub cut-tail : (s : List ℕ) → partIn (tailPart s) s ≡ tailOf s
 unfolding tailPart
@@ -38,7 +39,9 @@ behind : (m t : ℕ) (xs : List ℕ) → take (length (take m xs) - t) (drop t x
 behind m zero xs = let q : length (take m xs) - 0 ≡ length (take m xs) = omega arith in ap (λ (k : ℕ). take k xs) q ∙ whole m xs
 behind zero (suc t) xs = let q : 0 - suc t ≡ 0 = omega arith in ap (λ (k : ℕ). take k (drop (suc t) xs)) q
 behind (suc m) (suc t) [] = take-nil (0 - suc t)
-behind (suc m) (suc t) (x ∷ xs) = let q : suc (length (take m xs)) - suc t ≡ length (take m xs) - t = omega arith in ap (λ (k : ℕ). take k (drop t xs)) q ∙ behind m t xs
+behind (suc m) (suc t) (x ∷ xs) =
+    let q : suc (length (take m xs)) - suc t ≡ length (take m xs) - t = omega arith in
+    ap (λ (k : ℕ). take k (drop t xs)) q ∙ behind m t xs
 
 twice : (t m : ℕ) (xs : List ℕ) → drop (t + m) xs ≡ drop t (drop m xs)
 twice t zero xs = let q : t + 0 ≡ t = omega arith in ap (λ (k : ℕ). drop k xs) q
@@ -64,7 +67,8 @@ pub cut-slot : (s : List ℕ) → partIn (slotPart s) s ≡ shown s .tail
 unfolding slotPart shown showsBody
 cut-slot s = go (goodForm s) (eqb (byteAt s 0) stuffingTag)
   where
-    go : (g t : Bool) → partIn (toldPart (when g (when t showsEmpty (showsBody (bodyIn s))) showsNone .reading .told)) s ≡ when g (when t showsEmpty (showsBody (bodyIn s))) showsNone .tail
+    go : (g t : Bool) → partIn (toldPart (when g (when t showsEmpty (showsBody (bodyIn s))) showsNone .reading .told)) s
+        ≡ when g (when t showsEmpty (showsBody (bodyIn s))) showsNone .tail
     go true true = refl
     go true false = in-body s
     go false t = refl

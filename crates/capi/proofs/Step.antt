@@ -12,6 +12,7 @@ pub step-keeps : (j : Job) (n allowance : ℕ) → withMade j (stepOf j n allowa
 unfolding stepOf
 step-keeps j n allowance = go (fair j n)
   where
-    go : (b : Bool) → withMade j (when b (accepts j (stepCount j allowance)) (refuses j) .job .«stores_made») ≡ when b (accepts j (stepCount j allowance)) (refuses j) .job
+    go : (b : Bool) → withMade j (when b (accepts j (stepCount j allowance)) (refuses j) .job .«stores_made»)
+        ≡ when b (accepts j (stepCount j allowance)) (refuses j) .job
     go true = refl
     go false = refl

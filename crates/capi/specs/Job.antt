@@ -11,24 +11,24 @@ use lib.ListN.{length, getD}
 use Rattle.wire.specs.Flags.{bit}
 use Rattle.job.specs.declared.job.Job.{Job}
 use Rattle.job.specs.Step.{Steps, stepOf, slotAfter}
-use Rattle.capi.specs.declared.jobs.FlatAdvanced.{FlatAdvanced}
-use Rattle.capi.specs.declared.jobs.FlatStepped.{FlatStepped}
-use Rattle.capi.specs.declared.jobs.FlatMoved.{FlatMoved}
+use Rattle.capi.specs.declared.jobs.PlainAdvanced.{PlainAdvanced}
+use Rattle.capi.specs.declared.jobs.PlainStepped.{PlainStepped}
+use Rattle.capi.specs.declared.jobs.PlainMoved.{PlainMoved}
 
 abbrev pub numberIn : List ℕ → ℕ
 numberIn told = getD told 0 0
 
-abbrev pub advancedOut : Steps → FlatAdvanced
+abbrev pub advancedOut : Steps → PlainAdvanced
 advancedOut s = record { stores = s .made; number = numberIn (s .told); done = bit (s .done) }
 
-abbrev pub steppedOut : Steps → FlatStepped
+abbrev pub steppedOut : Steps → PlainStepped
 steppedOut s = record { job = s .job; told = advancedOut s }
 
-abbrev pub movedOut : Steps → FlatMoved
+abbrev pub movedOut : Steps → PlainMoved
 movedOut s = record { made = s .job .«stores_made»; stores = s .made; number = numberIn (s .told); done = bit (s .done) }
 
 -- of a job and a slot before, with an allowance: what is told, the job after, and the slot after
-pub record SteppedInPlace (before : Job) (slot : List ℕ) (allowance : ℕ) (r : FlatAdvanced) (after : Job) (last : List ℕ) : Type 0 where
+pub record SteppedInPlace (before : Job) (slot : List ℕ) (allowance : ℕ) (r : PlainAdvanced) (after : Job) (last : List ℕ) : Type 0 where
   pub told : r ≡ advancedOut (stepOf before (length slot) allowance)
   pub job : after ≡ stepOf before (length slot) allowance .job
   pub left : last ≡ slotAfter before slot allowance

@@ -1,33 +1,20 @@
 // Beginning a job, and stepping it.
 ghost use mathlib.Core.Path.{_≡_};
 ghost use lib.ListN.{length};
-ghost use Rattle.wire.specs.Flags.{when};
-ghost use Rattle.s2xv2_flat.specs.Output.{answerOut};
-ghost use Rattle.s2xv2_flat_in.specs.Input.{meant, valid, foreign};
+ghost use Rattle.s2xv2_plain.specs.Output.{answerOut};
+ghost use Rattle.s2xv2_plain.specs.Input.{meant};
 ghost use Rattle.job.specs.Step.{stepTold, stepOf, slotAfter};
-ghost use Rattle.begin.specs.Begin.{noJob, beginOf};
+ghost use Rattle.begin.specs.Begin.{beginOf, sizesOf};
 ghost use Rattle.job.specs.Job.{jobOf};
 ghost use Rattle.capi.specs.Job.{numberIn, steppedOut, movedOut, SteppedInPlace};
 use job::job::Job;
 use job::job::StepAnswer;
-use s2xv2_flat::output::answer_out;
-use s2xv2_flat::types::FOREIGN;
-use s2xv2_flat::types::FlatAnswer;
-use s2xv2_flat::types::FlatRecord;
-use s2xv2_flat_in::is_valid;
-use s2xv2_flat_in::record_in;
+use s2xv2_plain::types::PlainAnswer;
 use wire::field::bit_of;
-
-// The answer, and the job: if begin is refused, zeros.
-#[repr(C)]
-pub struct FlatBegun {
-    pub answer: FlatAnswer,
-    pub job: Job,
-}
 
 // What a step tells: how many stores it made, 0 or 8, and whether the job has none left, as a flag.
 #[repr(C)]
-pub struct FlatAdvanced {
+pub struct PlainAdvanced {
     pub stores: usize,
     pub number: u8,
     pub done: u8,
@@ -35,31 +22,26 @@ pub struct FlatAdvanced {
 
 // The job after the step, and what the step tells.
 #[repr(C)]
-pub struct FlatStepped {
+pub struct PlainStepped {
     pub job: Job,
-    pub told: FlatAdvanced,
+    pub told: PlainAdvanced,
 }
 
-// `begin::begin` of the library. Refuses with 100 what no record could hold. Stores nothing.
+// `begin::begin` of the library, into a job that is lent: its staged bytes, and its three numbers. Stores nothing in the slot.
 #[no_mangle]
-pub extern "C" fn s2xv2_begin(s: &[u8], r: FlatRecord, reserved_tail: &[u8]) -> FlatBegun
-    ensures answer { λ b. ⌜ b .answer ≡ when (valid r) (answerOut (beginOf (now (s .entry)) (meant r) (now («reserved_tail» .entry)) .told)) foreign ⌝ }
-    ensures job { λ b. ⌜ b .job ≡ when (valid r) (beginOf (now (s .entry)) (meant r) (now («reserved_tail» .entry)) .job) noJob ⌝ }
+pub extern "C" fn s2xv2_raw_begin(
+    s: &[u8],
+    w: &[u32; 10],
+    b: &[u8; 36],
+    reserved_tail: &[u8],
+    staged: &mut [u8; 257],
+    sizes: &mut [usize; 3],
+) -> PlainAnswer
+    ensures answer { λ r. ⌜ r ≡ answerOut (beginOf (now (s .entry)) (meant (now (w .entry)) (now (b .entry))) (now («reserved_tail» .entry)) .told) ⌝ }
+    ensures bytes { λ _. ⌜ now (staged .exit) ≡ beginOf (now (s .entry)) (meant (now (w .entry)) (now (b .entry))) (now («reserved_tail» .entry)) .job .staged ⌝ }
+    ensures numbers { λ _. ⌜ now (sizes .exit) ≡ sizesOf (beginOf (now (s .entry)) (meant (now (w .entry)) (now (b .entry))) (now («reserved_tail» .entry)) .job) ⌝ }
 {
-    if is_valid(r) {
-        let begun = begin::begin(s, record_in(r), reserved_tail);
-        let answer = begun.answer;
-        let job = begun.job;
-        FlatBegun {
-            answer: answer_out(answer),
-            job,
-        }
-    } else {
-        FlatBegun {
-            answer: FOREIGN,
-            job: begin::no_job(),
-        }
-    }
+    begin::begin_plain(s, w, b, reserved_tail, staged, sizes)
 }
 
 // The number of a step's answer.
@@ -73,7 +55,7 @@ fn step_number(answer: StepAnswer) -> u8
 }
 
 // What a step learns: what it tells, and how many stores the job has made in all.
-struct FlatMoved {
+struct PlainMoved {
     made: usize,
     stores: usize,
     number: u8,
@@ -88,13 +70,13 @@ fn advanced(
     k: usize,
     s: &mut [u8],
     allowance: usize,
-) -> FlatMoved
+) -> PlainMoved
     ensures told { λ r. ⌜ r ≡ movedOut (stepOf (jobOf (now (staged .entry)) n d k) (length (now (s .entry))) allowance) ⌝ }
     ensures left { λ _. ⌜ now (s .exit) ≡ slotAfter (jobOf (now (staged .entry)) n d k) (now (s .entry)) allowance ⌝ }
 {
     let moved = job::advance::advance(staged, n, d, k, s, allowance);
     let answer = moved.answer;
-    FlatMoved {
+    PlainMoved {
         made: moved.made,
         stores: moved.stores,
         number: step_number(answer),
@@ -104,7 +86,7 @@ fn advanced(
 
 // `Job::step` of the library: the staged bytes are lent on, so that the job is copied once.
 #[no_mangle]
-pub extern "C" fn s2xv2_step(j: Job, s: &mut [u8], allowance: usize) -> FlatStepped
+pub extern "C" fn s2xv2_step(j: Job, s: &mut [u8], allowance: usize) -> PlainStepped
     ensures told { λ r. ⌜ r ≡ steppedOut (stepOf j (length (now (s .entry))) allowance) ⌝ }
     ensures left { λ _. ⌜ now (s .exit) ≡ slotAfter j (now (s .entry)) allowance ⌝ }
 {
@@ -114,9 +96,9 @@ pub extern "C" fn s2xv2_step(j: Job, s: &mut [u8], allowance: usize) -> FlatStep
     let m = advanced(&j.staged, n, d, k, s, allowance);
     let mut job = j;
     job.stores_made = m.made;
-    FlatStepped {
+    PlainStepped {
         job,
-        told: FlatAdvanced {
+        told: PlainAdvanced {
             stores: m.stores,
             number: m.number,
             done: m.done,
@@ -127,7 +109,11 @@ pub extern "C" fn s2xv2_step(j: Job, s: &mut [u8], allowance: usize) -> FlatStep
 // `Job::step` of the library for a job where it stands: its bytes are lent on, and the one number that a step changes is stored. A refused step stores
 // nothing and leaves the job as it was.
 #[no_mangle]
-pub extern "C" fn s2xv2_step_in_place(job: &mut Job, s: &mut [u8], allowance: usize) -> FlatAdvanced
+pub extern "C" fn s2xv2_step_in_place(
+    job: &mut Job,
+    s: &mut [u8],
+    allowance: usize,
+) -> PlainAdvanced
     ensures { λ r. ⌜ SteppedInPlace (now (job .entry)) (now (s .entry)) allowance r (now (job .exit)) (now (s .exit)) ⌝ }
 {
     let n = job.slot_size;
@@ -135,7 +121,7 @@ pub extern "C" fn s2xv2_step_in_place(job: &mut Job, s: &mut [u8], allowance: us
     let k = job.stores_made;
     let m = advanced(&job.staged, n, d, k, s, allowance);
     job.stores_made = m.made;
-    FlatAdvanced {
+    PlainAdvanced {
         stores: m.stores,
         number: m.number,
         done: m.done,

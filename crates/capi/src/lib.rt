@@ -2,3 +2,4 @@
 pub mod body;
 pub mod jobs;
 pub mod slots;
+pub mod version;

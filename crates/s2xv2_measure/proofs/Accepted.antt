@@ -1,5 +1,6 @@
--- Laws of what is answered once the length is known: the writer refuses for room (`judged-room`), for list B (`judged-field`), or accepts (`judged-written`);
--- a tail counts as at most 65,535 bytes, and is told the same (`capped-same`); and a record that both lists pass, whose encoding is within 4,096 bytes and the room, is accepted with its length (`accepted`).
+-- Laws of what is answered once the length is known: a tail counts as at most 65,535 bytes, and is told the same (`capped-same`); the writer refuses for
+-- room (`judged-room`), for list B (`judged-field`), or accepts (`judged-written`); a record that list A passes is measured (`ready-length`), and one that
+-- both pass is written (`ready`).
 -- Assumes nothing.
 use mathlib.Core.Path.{_≡_, refl, sym, ap, _∙_}
 use mathlib.Core.List.{List, [], _∷_}
@@ -16,7 +17,7 @@ use Rattle.s2xv2.specs.ListA.{inconsistency, listA}
 use Rattle.s2xv2.specs.ListB.{listB, unwritable}
 use Rattle.s2xv2.specs.declared.record.S2Xv2SatelliteDeliverySystem.{S2Xv2SatelliteDeliverySystem}
 use Rattle.answers.proofs.Tests.{Clear, clear-first}
-use Rattle.s2xv2.proofs.Written.{measured, accepted-length, told-room, told-field, told-written}
+use Rattle.s2xv2.proofs.Written.{Writable, measured, accepted-length, told-room, told-field, told-written}
 
 -- a tail counts as at most 65,535 bytes: its length is told the same
 pub capped-same : (p t : ℕ) → saturated (p + min t 65535) ≡ saturated (p + t)
@@ -50,8 +51,11 @@ module _ (r : S2Xv2SatelliteDeliverySystem) (tail : List ℕ) (n room : ℕ) whe
         let m = measured r tail n e in
         sym (rw (m .size) at (told-written r tail (m .consistent) (omega arith) room (omega arith) u))
 
-  pub accepted : Clear (listA r) × Clear (listB r) → n ≡ encodedLength r tail → n ≤ 4096 → n ≤ room → (lengthTold r tail ≡ 0 ∷ n ∷ []) × (writeTold r tail room ≡ 0 ∷ n ∷ [])
+  -- a record that list A passes is measured, and one that both pass is written
+  pub ready-length : Clear (listA r) → n ≡ encodedLength r tail → n ≤ 4096 → 0 ∷ n ∷ [] ≡ lengthTold r tail
+  unfolding inconsistency
+  ready-length k s h = ap (λ (n : ℕ). 0 ∷ n ∷ []) s ∙ sym (accepted-length r tail (clear-first 1 (listA r) k) (omega arith))
+
+  pub ready : Clear (listA r) × Clear (listB r) → (encodedLength r tail ≤ 4096) × (encodedLength r tail ≤ room) → Writable r tail room
   unfolding inconsistency unwritable
-  accepted k s h l =
-      let e = accepted-length r tail (clear-first 1 (listA r) (k .0)) (omega arith) ∙ ap (λ (n : ℕ). 0 ∷ n ∷ []) (sym s) in
-      (e, sym (judged-written (sym e) l (clear-first 1 (listB r) (k .1))))
+  ready k h = record { consistent = clear-first 1 (listA r) (k .0); within = h .0; fits = h .1; carried = clear-first 1 (listB r) (k .1) }

@@ -1,5 +1,6 @@
-pub mod Flags
-pub mod Due
+pub mod Words
+pub mod Asked
 pub mod Checked
 pub mod Accepted
+pub mod Sizes
 pub mod Equal

@@ -1,97 +1,109 @@
-// Whether a record passes lists A and B: every test at once, with no place told. A flag that is there is 0 or 1.
+// Quick tests, four bytes at a time: a record that passes them is consistent, and the wire can carry it. They tell no place, and may fail for a record that
+// is right, as for one with a flag above 1.
 ghost use mathlib.Core.Path.{_≡_};
-ghost use mathlib.Core.Bool.{true};
-ghost use mathlib.Core.List.{[], _∷_};
-ghost use Prim.Native.Nat.{_+_, _*_};
+ghost use mathlib.Core.Bool.{true, false};
+ghost use mathlib.Core.List.{List, [], _∷_};
+ghost use Prim.Native.Nat.{ℕ, _≤_, _<_};
 ghost use lib.Dec.{eqb, ltb};
-ghost use lib.ListN.{take, drop};
-ghost use Rattle.wire.specs.Flags.{bit, isOne, and, not};
-ghost use Rattle.s2xv2.specs.Table144c.{modeOf, hasSelector, hasTimeslice, hasSuperframe};
-ghost use Rattle.s2xv2.specs.OptionSuperframe.{someSuperframeIf};
+ghost use lib.ListN.{getD};
+ghost use Rattle.wire.specs.Flags.{and, not};
 ghost use Rattle.wire.specs.Count.{lessOne};
-ghost use Rattle.s2xv2.specs.ListA.{partsA, superframeA, listA};
 ghost use Rattle.wire.specs.Widths.{wide};
-ghost use Rattle.s2xv2.specs.ListB.{coreB, scramblingB, superframeB, listB};
 ghost use Rattle.answers.proofs.Tests.{Clear};
+ghost use Rattle.s2xv2.specs.Table144c.{modeOf};
+ghost use Rattle.s2xv2.specs.ListA.{listA};
+ghost use Rattle.s2xv2.specs.ListB.{coreB, superframeB, listB};
+ghost use Rattle.s2xv2_plain.specs.Input.{isSet, blockIn, meant};
 ghost use Rattle.s2xv2.specs.declared.superframe.OptionSuperframe.the-variants as OS;
-ghost use Rattle.s2xv2_flat_in.specs.Input.{blockIn, meant, valid};
-ghost use Rattle.s2xv2_flat.specs.Output.{isReserved};
-use crate::flag::both;
-use s2xv2_flat::types::FlatRecord;
-use s2xv2_flat::types::FlatSuperframe;
+ghost use Rattle.s2xv2_measure.specs.Quick.{Word, WordAt, askedOf, Agrees, Fits};
 use s2xv2_lists::list_b::less_one;
-use wire::field::joined;
+use s2xv2_plain::places;
 use wire::field::picked;
 
-// What a mode asks for, as `parts_given` counts it: 1 for a scrambling selector, 2 for a timeslice, 4 for a superframe block,
-// 8 for a mode that has no name.
-fn parts_asked(code: u8) -> u32
-    ensures { λ r. ⌜ r ≡ bit (hasSelector (modeOf code)) + 2 * bit (hasTimeslice (modeOf code)) + 4 * bit (hasSuperframe (modeOf code)) + 8 * isReserved (modeOf code) ⌝ }
+// Four bytes as one word, the first the lowest.
+fn join(a: u8, b: u8, c: u8, d: u8) -> u32
+    ensures { λ r. ⌜ Word a b c d r ⌝ }
+{
+    (a as u32) + (b as u32) * 256 + (c as u32) * 65536 + (d as u32) * 16777216
+}
+
+// The four bytes from `i` on as one word.
+fn word(b: &[u8; 36], i: usize) -> u32
+    requires { ⌜ i ≤ 32 ⌝ }
+    ensures { λ r. ⌜ WordAt (now (b .entry)) i r ⌝ }
+{
+    join(b[i], b[i + 1], b[i + 2], b[i + 3])
+}
+
+// What a mode asks for, as one word: that it is reserved, a scrambling selector, a timeslice, a superframe block.
+fn asked(code: u8) -> u32
+    ensures { λ r. ⌜ r ≡ askedOf (modeOf code) ⌝ }
 {
     match code {
         0 => 0,
-        1 => 1,
-        2 => 3,
+        1 => 256,
+        2 => 65792,
         3 => 0,
-        4 => 4,
-        5 => 6,
-        _ => 8,
+        4 => 16777216,
+        5 => 16842752,
+        _ => 1,
     }
 }
 
-// The parts that a mode asks for, and whether it has no name, as one number.
-fn parts_given(selector: u8, timeslice: u8, superframe: u8, reserved: u8) -> u32
-    ensures { λ r. ⌜ r ≡ selector + 2 * timeslice + 4 * superframe + 8 * reserved ⌝ }
+// What is there is what is said to be there, and what the mode asks for.
+fn agrees(b: &[u8; 36]) -> bool
+    ensures { λ r. ⌜ (r ≡ true → Agrees (now (b .entry))) ⌝ }
 {
-    (selector as u32) + 2 * (timeslice as u32) + 4 * (superframe as u32) + 8 * (reserved as u32)
+    let said = word(b, places::MULTIPLE_INPUT_STREAM_FLAG);
+    said == word(b, places::HAS_INPUT_STREAM_IDENTIFIER)
+        && said & 0xFEFEFEFE == 0
+        && word(b, places::MODE_IS_RESERVED) == asked(b[places::S2XV2_MODE])
 }
 
-// What mode and flags say of the parts is so: of the first seven tests of list A none holds but perhaps the sixth, of the bonds;
-// and not the tenth of list B, of an index that is absent.
-fn agrees(c: FlatRecord) -> bool
-    requires { ⌜ valid c ≡ true ⌝ }
-    ensures { λ r. ⌜ (r ≡ true → Clear (take 5 (partsA (meant c))) × Clear (drop 6 (partsA (meant c))) × Clear (take 1 (scramblingB (meant c)))) ⌝ }
+// A scrambling selector that is set is there.
+fn selector_agrees(set: u8, has: u8) -> bool
+    ensures { λ r. ⌜ (r ≡ true → and (isSet set) (not (isSet has)) ≡ false) ⌝ }
 {
-    let scrambled = both(
-        c.has_scrambling_sequence_selector,
-        c.scrambling_sequence_selector,
-    );
-    let parts = parts_given(
-        c.has_scrambling_sequence_selector,
-        c.has_timeslice_number,
-        c.has_superframe,
-        c.mode_is_reserved,
-    );
-    c.has_input_stream_identifier == c.multiple_input_stream_flag
-        && parts == parts_asked(c.s2xv2_mode)
-        && c.has_scrambling_sequence_index == scrambled
+    set <= has
 }
 
-// The wire can carry the core.
-fn core_fits(c: FlatRecord) -> bool
-    ensures { λ r. ⌜ (r ≡ true → Clear (coreB (meant c))) ⌝ }
+// There are bonds only under channel_bond 1.
+fn bonds_agree(bond: u8, count: u8) -> bool
+    ensures { λ r. ⌜ (r ≡ true → and (ltb 0 count) (not (eqb bond 1)) ≡ false) ⌝ }
 {
-    let first = joined(c.reserved_zero_future_use_2, c.channel_bond);
-    let second = joined(c.polarization, c.ts_gs_s2x_mode);
-    let top = picked(
-        c.has_scrambling_sequence_selector,
-        0,
-        c.reserved_zero_future_use_1,
-    );
-    joined(first, second) < 4
-        && c.s2xv2_mode < 16
-        && c.roll_off < 8
-        && c.receiver_profiles < 32
-        && top < 2
-        && c.satellite_id < 16777216
+    (bond == 1) | (count == 0)
 }
 
-// The wire can carry the scrambling index, where it is there.
-fn scrambling_fits(there: u8, index: u32, reserved: u8) -> bool
-    ensures { λ r. ⌜ (r ≡ true → Clear (and (isOne there) (wide 18 index) ∷ and (isOne there) (wide 6 reserved) ∷ [])) ⌝ }
+// List A finds nothing, whatever the numbers are.
+pub(crate) fn is_consistent(b: &[u8; 36]) -> bool
+    ensures agrees { λ r. ⌜ (r ≡ true → Agrees (now (b .entry))) ⌝ }
+    ensures list { λ r. ⌜ (r ≡ true → (ws : List ℕ) → Clear (listA (meant ws (now (b .entry))))) ⌝ }
 {
-    if there == 1 {
-        index < 262144 && reserved < 64
+    agrees(b)
+        && selector_agrees(
+            b[places::SCRAMBLING_SEQUENCE_SELECTOR],
+            b[places::HAS_SCRAMBLING_SEQUENCE_SELECTOR],
+        )
+        && bonds_agree(b[places::CHANNEL_BOND], b[places::NUM_CHANNEL_BONDS])
+}
+
+// The wire can carry the core. Each mask has the bits that a field of its word must not have.
+fn core_fits(w: &[u32; 10], b: &[u8; 36]) -> bool
+    ensures list { λ r. ⌜ (r ≡ true → Clear (coreB (meant (now (w .entry)) (now (b .entry))))) ⌝ }
+    ensures bits { λ r. ⌜ (r ≡ true → (getD (now (b .entry)) 13 0 < 2) × (getD (now (b .entry)) 14 0 < 2)) ⌝ }
+{
+    word(b, places::RESERVED_ZERO_FUTURE_USE_2) & 0xFCFEFEFC == 0
+        && word(b, places::TS_GS_S2X_MODE) & 0xFCFEE0FC == 0
+        && word(b, places::S2XV2_MODE) & 0x0000F8F0 == 0
+        && w[places::SATELLITE_ID] < 16777216
+}
+
+// A selector that is set is there, and the wire can carry the index behind it.
+fn scrambling_fits(set: u8, has: u8, index: u32, reserved: u8) -> bool
+    ensures { λ r. ⌜ (r ≡ true → Clear (and (isSet set) (not (isSet has)) ∷ and (isSet set) (wide 18 index) ∷ and (isSet set) (wide 6 reserved) ∷ [])) ⌝ }
+{
+    if set != 0 {
+        has != 0 && index < 262144 && reserved < 64
     } else {
         true
     }
@@ -108,44 +120,53 @@ fn bonds_fit(bond: u8, count: u8, reserved: u8) -> bool
     }
 }
 
-// The block has what its selectors say, and the wire can carry it.
-fn block_fits(f: FlatSuperframe) -> bool
-    ensures { λ r. ⌜ (r ≡ true → Clear (superframeA (OS.Some (blockIn f))) × Clear (superframeB (OS.Some (blockIn f)))) ⌝ }
+// The wire can carry the block.
+fn block_fits(w: &[u32; 10], b: &[u8; 36]) -> bool
+    requires { ⌜ Agrees (now b) ⌝ }
+    ensures { λ r. ⌜ (r ≡ true → Clear (superframeB (OS.Some (blockIn (now (w .entry)) (now (b .entry)))))) ⌝ }
 {
-    f.reference_scrambling_index < 1048576
-        && f.payload_scrambling_index < 1048576
-        && f.reserved_zero_future_use_2 < 4
-        && f.has_sffi == f.sffi_selector
-        && picked(f.sffi_selector, f.sffi, f.reserved_zero_future_use_4) < 16
-        && f.has_beamhopping_time_plan_id == f.beam_hopping_time_plan_selector
-        && f.superframe_pilots_wh_sequence_number < 32
-        && f.postamble_pli < 8
+    let nibble = picked(
+        b[places::SFFI_SELECTOR],
+        b[places::SFFI],
+        b[places::RESERVED_ZERO_FUTURE_USE_4],
+    );
+    w[places::REFERENCE_SCRAMBLING_INDEX] < 1048576
+        && w[places::PAYLOAD_SCRAMBLING_INDEX] < 1048576
+        && b[places::SUPERFRAME_RESERVED_ZERO_FUTURE_USE_2] < 4
+        && nibble < 16
+        && b[places::SUPERFRAME_PILOTS_WH_SEQUENCE_NUMBER] < 32
+        && b[places::POSTAMBLE_PLI] < 8
 }
 
 // The same of a block that may be absent.
-fn superframe_fits(there: u8, f: FlatSuperframe) -> bool
-    ensures { λ r. ⌜ (r ≡ true → Clear (superframeA (someSuperframeIf (isOne there) (blockIn f))) × Clear (superframeB (someSuperframeIf (isOne there) (blockIn f)))) ⌝ }
+fn superframe_fits(w: &[u32; 10], b: &[u8; 36]) -> bool
+    requires { ⌜ Agrees (now b) ⌝ }
+    ensures { λ r. ⌜ (r ≡ true → Clear (superframeB (meant (now (w .entry)) (now (b .entry)) .superframe))) ⌝ }
 {
-    if there == 1 { block_fits(f) } else { true }
+    if b[places::HAS_SUPERFRAME] != 0 {
+        block_fits(w, b)
+    } else {
+        true
+    }
 }
 
-// The record passes both lists.
-pub(crate) fn is_checked(c: FlatRecord) -> bool
-    requires { ⌜ valid c ≡ true ⌝ }
-    ensures { λ r. ⌜ (r ≡ true → Clear (listA (meant c)) × Clear (listB (meant c))) ⌝ }
+// Both lists find nothing, and every flag that is counted or packed is 0 or 1.
+pub(crate) fn fits(w: &[u32; 10], b: &[u8; 36]) -> bool
+    ensures lists { λ r. ⌜ (r ≡ true → Clear (listA (meant (now (w .entry)) (now (b .entry)))) × Clear (listB (meant (now (w .entry)) (now (b .entry))))) ⌝ }
+    ensures bits { λ r. ⌜ (r ≡ true → Fits (now (b .entry))) ⌝ }
 {
-    let block = c.superframe;
-    agrees(c)
-        && core_fits(c)
-        && superframe_fits(c.has_superframe, block)
+    agrees(b)
+        && core_fits(w, b)
         && scrambling_fits(
-            c.has_scrambling_sequence_index,
-            c.scrambling_sequence_index,
-            c.reserved_zero_future_use_6,
+            b[places::SCRAMBLING_SEQUENCE_SELECTOR],
+            b[places::HAS_SCRAMBLING_SEQUENCE_SELECTOR],
+            w[places::SCRAMBLING_SEQUENCE_INDEX],
+            b[places::RESERVED_ZERO_FUTURE_USE_6],
         )
         && bonds_fit(
-            c.channel_bond,
-            c.num_channel_bonds,
-            c.reserved_zero_future_use_7,
+            b[places::CHANNEL_BOND],
+            b[places::NUM_CHANNEL_BONDS],
+            b[places::RESERVED_ZERO_FUTURE_USE_7],
         )
+        && superframe_fits(w, b)
 }

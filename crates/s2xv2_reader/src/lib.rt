@@ -2,24 +2,26 @@
 ghost use mathlib.Core.Path.{_≡_};
 ghost use Rattle.answers.specs.Answer.{told};
 ghost use Rattle.s2xv2.specs.Read.{readTold, readOf, tailOf};
-ghost use Rattle.s2xv2_reader.specs.Seen.{seen, flatSeen, flatRefused, answerIn};
+ghost use Rattle.s2xv2_plain.specs.Output.{answerOut, numbersOf, bytesOf};
+ghost use Rattle.s2xv2_reader.specs.Seen.{seen, endIn};
+use crate::whole::put_all;
 use answers::answer::Answer;
 use answers::answer::Refusal;
 use answers::answer::saturated;
 use s2xv2::record::S2Xv2SatelliteDeliverySystem;
-use s2xv2_flat::output::answer_of;
-use s2xv2_flat::output::answer_out;
-use s2xv2_flat::output::record_out;
-use s2xv2_flat::types::FlatAnswer;
-use s2xv2_flat::types::FlatParsed;
-use s2xv2_flat_in::record_in;
 use s2xv2_layout::ends::ends_of;
 use s2xv2_layout::missing::missing;
 use s2xv2_layout::present::present_in;
+use s2xv2_plain::clear::clear;
+use s2xv2_plain::input::of_plain;
+use s2xv2_plain::output::answer_out;
+use s2xv2_plain::types::PlainAnswer;
 
 mod bytes;
+mod core;
 mod parts;
-mod record;
+mod superframe;
+mod whole;
 
 // What a body reads as: where its tail starts and the record, or why it is refused and the default record.
 pub struct Parsed {
@@ -27,62 +29,35 @@ pub struct Parsed {
     pub body: S2Xv2SatelliteDeliverySystem,
 }
 
-// A refused body shows the default record.
-fn refused(answer: Answer) -> FlatParsed
-    ensures { λ r. ⌜ r ≡ flatRefused answer ⌝ }
-{
-    FlatParsed {
-        answer: answer_out(answer),
-        body: record_out(S2Xv2SatelliteDeliverySystem::default()),
-    }
-}
-
-// What `parse` answers, as plain numbers: the reader itself.
-pub fn parse_flat(sel: &[u8]) -> FlatParsed
-    ensures { λ r. ⌜ r ≡ flatSeen (readOf (now (sel .entry))) ⌝ }
+// Stores the record of the body `sel` as the numbers `w` and the bytes `b`, and answers where its tail starts: the reader itself. For a body that `parse`
+// refuses it answers 0, and stores the default record.
+pub fn read_into(sel: &[u8], w: &mut [u32; 10], b: &mut [u8; 36]) -> usize
+    ensures end { λ q. ⌜ q ≡ endIn (readOf (now (sel .entry)) .told) ⌝ }
+    ensures numbers { λ _. ⌜ now (w .exit) ≡ numbersOf (readOf (now (sel .entry)) .body) ⌝ }
+    ensures bytes { λ _. ⌜ now (b .exit) ≡ bytesOf (readOf (now (sel .entry)) .body) ⌝ }
 {
     let have = sel.len();
-    if 4096 < have {
-        return refused(Answer::Refused(Refusal::Long {
-            length: saturated(have),
-        }));
+    if 18 <= have && have <= 4096 {
+        let end = put_all(sel, w, b);
+        if end != 0 {
+            return end;
+        }
     }
-    if have < 18 {
-        return refused(Answer::Refused(Refusal::Short {
-            place: 1,
-            need: 18,
-            have,
-        }));
-    }
-    let k = present_in(sel);
-    let e = ends_of(sel, k);
-    let end = e.superframe;
-    if have < end {
-        return refused(missing(have, e));
-    }
-    FlatParsed {
-        answer: answer_of(0, end, 0, 0),
-        body: record::record_at(sel, k, e),
-    }
+    clear(w, b);
+    0
 }
 
-// The answer of a reading, which is accepted, too long, or ends inside a part.
-fn answer_in(a: FlatAnswer) -> Answer
-    ensures { λ r. ⌜ r ≡ answerIn a ⌝ }
+// What `parse` answers, with the record as the numbers `w` and the bytes `b`.
+pub fn parse_into(sel: &[u8], w: &mut [u32; 10], b: &mut [u8; 36]) -> PlainAnswer
+    ensures answer { λ r. ⌜ r ≡ answerOut (readOf (now (sel .entry)) .told) ⌝ }
+    ensures numbers { λ _. ⌜ now (w .exit) ≡ numbersOf (readOf (now (sel .entry)) .body) ⌝ }
+    ensures bytes { λ _. ⌜ now (b .exit) ≡ bytesOf (readOf (now (sel .entry)) .body) ⌝ }
 {
-    if a.number == 0 {
-        return Answer::Accepted(a.first);
+    let end = read_into(sel, w, b);
+    if end == 0 {
+        return answer_out(parse_answer(sel));
     }
-    if a.number == 2 {
-        return Answer::Refused(Refusal::Long {
-            length: (a.first % 65536) as u16,
-        });
-    }
-    Answer::Refused(Refusal::Short {
-        place: (a.first % 256) as u8,
-        need: a.second,
-        have: a.third,
-    })
+    answer_out(Answer::Accepted(end))
 }
 
 // The record of the body `sel`. Refuses a body of more than 4,096 bytes, and one that ends inside a part that its mode, flags
@@ -90,12 +65,19 @@ fn answer_in(a: FlatAnswer) -> Answer
 pub fn parse(sel: &[u8]) -> Parsed
     ensures { λ r. ⌜ seen r ≡ readOf (now (sel .entry)) ⌝ }
 {
-    let flat = parse_flat(sel);
-    let answer = flat.answer;
-    let body = flat.body;
+    let mut w = [0u32; 10];
+    let mut b = [0u8; 36];
+    let end = read_into(sel, &mut w, &mut b);
+    let body = of_plain(&w, &b);
+    if end == 0 {
+        return Parsed {
+            answer: parse_answer(sel),
+            body,
+        };
+    }
     Parsed {
-        answer: answer_in(answer),
-        body: record_in(body),
+        answer: Answer::Accepted(end),
+        body,
     }
 }
 
@@ -113,13 +95,30 @@ pub fn parse_answer(sel: &[u8]) -> Answer
     missing(sel.len(), e)
 }
 
+// Where the tail of the body `sel` starts, or 0 for a body that `parse` refuses.
+pub fn tail_start(sel: &[u8]) -> usize
+    ensures { λ q. ⌜ q ≡ endIn (readTold (now (sel .entry))) ⌝ }
+{
+    let have = sel.len();
+    let k = present_in(sel);
+    let e = ends_of(sel, k);
+    let end = e.superframe;
+    if 4096 < have {
+        return 0;
+    }
+    if have < end {
+        return 0;
+    }
+    end
+}
+
 // The tail of the body `sel`: all that is left behind its parts. Nothing of a body that `parse` refuses.
 pub fn reserved_tail(sel: &[u8]) -> &[u8]
     ensures { λ r. ⌜ now r ≡ tailOf (now (sel .entry)) ⌝ }
 {
-    let answer = parse_answer(sel);
-    match answer {
-        Answer::Accepted(tail) => &sel[tail..],
-        Answer::Refused(_) => &sel[..0],
+    let start = tail_start(sel);
+    if start == 0 {
+        return &sel[..0];
     }
+    &sel[start..]
 }

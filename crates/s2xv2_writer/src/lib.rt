@@ -1,61 +1,61 @@
 // Writes the body of an S2Xv2 satellite delivery system descriptor.
 ghost use mathlib.Core.Path.{_≡_};
-ghost use mathlib.Core.Bool.{true};
 ghost use mathlib.Core.List.{_++_};
 ghost use Prim.Native.Nat.{_≤_};
 ghost use lib.ListN.{length, drop};
-ghost use Rattle.wire.specs.Flags.{when};
 ghost use Rattle.answers.specs.Answer.{told};
 ghost use Rattle.s2xv2.specs.Encode.{encode, encodedLength};
 ghost use Rattle.s2xv2.specs.ListB.{listB};
 ghost use Rattle.s2xv2.specs.Write.{writeTold, written};
 ghost use Rattle.answers.proofs.Tests.{Clear};
-ghost use Rattle.s2xv2_flat_in.specs.Input.{meant, valid, foreign};
-ghost use Rattle.s2xv2_flat.specs.Output.{answerOut};
+ghost use Rattle.s2xv2_plain.specs.Input.{meant};
+ghost use Rattle.s2xv2_plain.specs.Output.{answerOut};
+ghost use Rattle.s2xv2_measure.specs.Quick.{Packed};
 use answers::answer::Answer;
 use s2xv2::record::S2Xv2SatelliteDeliverySystem;
-use s2xv2_flat::output::record_out;
-use s2xv2_flat::types::FlatAnswer;
-use s2xv2_flat::types::FlatRecord;
-use s2xv2_lists::list_b::less_one;
+use s2xv2_measure::is_ready;
 use s2xv2_measure::write_answer;
-use s2xv2_measure::write_answer_flat;
+use s2xv2_plain::input::of_plain;
+use s2xv2_plain::output::accepted;
+use s2xv2_plain::output::answer_out;
+use s2xv2_plain::output::to_plain;
+use s2xv2_plain::places;
+use s2xv2_plain::types::PlainAnswer;
 
 mod parts;
 mod store;
 
-// All parts and then the tail, from the start of the buffer. All has been checked: there is room, and the wire can carry the record.
-// The last id stands at the place that the count minus one tells.
-fn put_all(buf: &mut [u8], c: FlatRecord, tail: &[u8])
-    requires { ⌜ encodedLength (meant c) (now tail) ≤ length (now buf) ⌝ }
-    requires { ⌜ valid c ≡ true ⌝ }
-    requires { ⌜ Clear (listB (meant c)) ⌝ }
-    ensures { λ _. ⌜ now (buf .exit) ≡ encode (meant c) (now (tail .entry)) ++ drop (encodedLength (meant c) (now (tail .entry))) (now (buf .entry)) ⌝ }
+// All parts and then the tail, from the start of the buffer; answers how many bytes. All has been checked: there is room, and the wire can carry the record.
+fn put_all(buf: &mut [u8], w: &[u32; 10], b: &[u8; 36], tail: &[u8]) -> usize
+    requires { ⌜ encodedLength (meant (now w) (now b)) (now tail) ≤ length (now buf) ⌝ }
+    requires { ⌜ Packed (now b) × Clear (listB (meant (now w) (now b))) ⌝ }
+    ensures place { λ n. ⌜ n ≡ encodedLength (meant (now (w .entry)) (now (b .entry))) (now (tail .entry)) ⌝ }
+    ensures stored { λ n. ⌜ now (buf .exit) ≡ encode (meant (now (w .entry)) (now (b .entry))) (now (tail .entry)) ++ drop n (now (buf .entry)) ⌝ }
 {
-    parts::put_core(buf, c);
-    let stream = c.input_stream_identifier;
-    let p1 = parts::put_byte(buf, 18, c.has_input_stream_identifier, stream);
+    parts::put_core(buf, w, b);
+    let stream = b[places::INPUT_STREAM_IDENTIFIER];
+    let p1 = parts::put_byte(buf, 18, b[places::HAS_INPUT_STREAM_IDENTIFIER], stream);
     let p2 = parts::put_scrambling(
         buf,
         p1,
-        c.has_scrambling_sequence_selector,
-        c.scrambling_sequence_selector,
-        c.reserved_zero_future_use_6,
-        c.scrambling_sequence_index,
+        b[places::SCRAMBLING_SEQUENCE_SELECTOR],
+        b[places::RESERVED_ZERO_FUTURE_USE_6],
+        w[places::SCRAMBLING_SEQUENCE_INDEX],
     );
-    let p3 = parts::put_byte(buf, p2, c.has_timeslice_number, c.timeslice_number);
-    let last = (less_one(c.num_channel_bonds) % 2) as usize;
+    let timeslice = b[places::TIMESLICE_NUMBER];
+    let p3 = parts::put_byte(buf, p2, b[places::HAS_TIMESLICE_NUMBER], timeslice);
     let p4 = parts::put_bonds(
         buf,
         p3,
-        c.channel_bond,
-        c.reserved_zero_future_use_7,
-        c.num_channel_bonds,
-        c.secondary_delivery_system_ids[0],
-        c.secondary_delivery_system_ids[last],
+        b[places::CHANNEL_BOND],
+        b[places::RESERVED_ZERO_FUTURE_USE_7],
+        b[places::NUM_CHANNEL_BONDS],
+        w[places::SECONDARY_DELIVERY_SYSTEM_ID_0],
+        w[places::SECONDARY_DELIVERY_SYSTEM_ID_1],
     );
-    let p5 = parts::put_superframe(buf, p4, c.has_superframe, c.superframe);
-    store::copy(buf, p5, tail);
+    let p5 = parts::put_superframe(buf, p4, w, b);
+    store::put_tail(buf, p5, tail);
+    p5 + tail.len()
 }
 
 // Writes the record and its tail to the start of `buf`, and answers how many bytes that took. Refuses what `serialized_len`
@@ -71,19 +71,41 @@ pub fn serialize_into(
 {
     let answer = write_answer(r, reserved_tail, buf.len());
     if let Answer::Accepted(_) = answer {
-        put_all(buf, record_out(r), reserved_tail);
+        let plain = to_plain(r);
+        let numbers = plain.numbers;
+        let bytes = plain.bytes;
+        put_all(buf, &numbers, &bytes, reserved_tail);
     }
     answer
 }
 
-// `serialize_into` of a record as numbers. Refuses with 100 what no record could hold, and then stores nothing.
-pub fn serialize_flat(c: FlatRecord, reserved_tail: &[u8], buf: &mut [u8]) -> FlatAnswer
-    ensures answer { λ a. ⌜ a ≡ when (valid c) (answerOut (writeTold (meant c) (now («reserved_tail» .entry)) (length (now (buf .entry))))) foreign ⌝ }
-    ensures buffer { λ _. ⌜ now (buf .exit) ≡ when (valid c) (written (meant c) (now («reserved_tail» .entry)) (now (buf .entry))) (now (buf .entry)) ⌝ }
+// `serialize_into` of the record that plain numbers mean, the long way.
+fn serialize_judged(
+    w: &[u32; 10],
+    b: &[u8; 36],
+    reserved_tail: &[u8],
+    buf: &mut [u8],
+) -> PlainAnswer
+    ensures answer { λ a. ⌜ a ≡ answerOut (writeTold (meant (now (w .entry)) (now (b .entry))) (now («reserved_tail» .entry)) (length (now (buf .entry)))) ⌝ }
+    ensures buffer { λ _. ⌜ now (buf .exit) ≡ written (meant (now (w .entry)) (now (b .entry))) (now («reserved_tail» .entry)) (now (buf .entry)) ⌝ }
 {
-    let answer = write_answer_flat(c, reserved_tail, buf.len());
-    if answer.number == 0 {
-        put_all(buf, c, reserved_tail);
+    let answer = serialize_into(of_plain(w, b), reserved_tail, buf);
+    answer_out(answer)
+}
+
+// `serialize_into` of the record that plain numbers mean. One that passes the quick tests is judged by no other.
+pub fn serialize_plain(
+    w: &[u32; 10],
+    b: &[u8; 36],
+    reserved_tail: &[u8],
+    buf: &mut [u8],
+) -> PlainAnswer
+    ensures answer { λ a. ⌜ a ≡ answerOut (writeTold (meant (now (w .entry)) (now (b .entry))) (now («reserved_tail» .entry)) (length (now (buf .entry)))) ⌝ }
+    ensures buffer { λ _. ⌜ now (buf .exit) ≡ written (meant (now (w .entry)) (now (b .entry))) (now («reserved_tail» .entry)) (now (buf .entry)) ⌝ }
+{
+    if is_ready(w, b, reserved_tail, buf.len()) {
+        let length = put_all(buf, w, b, reserved_tail);
+        return accepted(length as u16);
     }
-    answer
+    serialize_judged(w, b, reserved_tail, buf)
 }

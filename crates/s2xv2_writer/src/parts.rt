@@ -1,34 +1,39 @@
 // The parts of a record as bytes. Each function stores its part from a place on and answers the place behind it; it requires room for the
-// part, that each flag that is there is 0 or 1, and that list B found nothing in it.
+// part, that each flag that it packs into a byte is 0 or 1, and that list B found nothing in it.
 ghost use mathlib.Core.List.{[], _∷_};
-ghost use mathlib.Core.Bool.{true, false};
+ghost use mathlib.Core.Bool.{false};
 ghost use mathlib.Core.Path.{_≡_};
 ghost use Prim.Native.Nat.{_+_, _*_, _%_, _≤_, _<_};
 ghost use lib.ListN.{length, take, drop};
 ghost use lib.Dec.{eqb};
-ghost use Rattle.wire.specs.Flags.{isOne, and};
+ghost use Rattle.wire.specs.Flags.{when, and};
 ghost use Rattle.wire.specs.Store.{storedFrom};
 ghost use Rattle.wire.specs.Widths.{pack, wide};
 ghost use Rattle.wire.specs.Parts.{bytesOf, sizes};
 ghost use Rattle.s2xv2.specs.Table144b.{core, superframe};
 ghost use Rattle.answers.specs.Options.{some8If};
-ghost use Rattle.s2xv2.specs.OptionSuperframe.{someSuperframeIf};
-ghost use Rattle.s2xv2.specs.Encode.{coreValues, byteParts, scramblingParts, bondParts, superframeValues, planParts, blockParts, superframeParts};
+ghost use Rattle.s2xv2.specs.Encode.{coreValues, byteParts, scramblingParts, bondParts, superframeValues, planParts, blockParts, superframeOf};
 ghost use Rattle.wire.specs.Count.{lessOne};
 ghost use Rattle.s2xv2.specs.ListB.{coreB, superframeB};
 ghost use Rattle.answers.proofs.Tests.{Clear};
 ghost use Rattle.answers.specs.declared.option.OptionU32.the-variants as O32;
 ghost use Rattle.s2xv2.specs.declared.superframe.OptionSuperframe.the-variants as OS;
-ghost use Rattle.s2xv2_flat_in.specs.Input.{blockIn, meant, valid, flags, allowed, blockFlags};
+ghost use Rattle.s2xv2_plain.specs.Input.{isSet, blockIn, meant};
+ghost use Rattle.s2xv2_measure.specs.Quick.{Packed};
 use crate::store::copy;
 use crate::store::put;
 use crate::store::put_24;
 use crate::store::put_32;
-use s2xv2_flat::types::FlatRecord;
-use s2xv2_flat::types::FlatSuperframe;
 use s2xv2_lists::list_b::less_one;
-use wire::field::picked;
+use s2xv2_plain::places;
 use wire::number::be_bytes_24;
+
+// The first number where the flag is set, and the second where it is clear.
+fn chosen(flag: u8, first: u8, second: u8) -> u8
+    ensures { λ r. ⌜ r ≡ when (isSet flag) first second ⌝ }
+{
+    if flag != 0 { first } else { second }
+}
 
 // Byte 4: S2Xv2_mode 4, multiple_input_stream_flag 1, roll_off 3.
 fn byte_4(mode: u8, flag: u8, roll: u8) -> u8
@@ -55,49 +60,52 @@ fn byte_6(top: u8, tsgs: u8, profiles: u8) -> u8
 }
 
 // Bytes 4 to 6.
-fn flag_bytes(c: FlatRecord) -> [u8; 3]
-    requires { ⌜ valid c ≡ true ⌝ }
-    requires { ⌜ Clear (coreB (meant c)) ⌝ }
-    ensures { λ a. ⌜ a ≡ take 3 (drop 4 (pack core (coreValues (meant c)))) ⌝ }
+fn flag_bytes(w: &[u32; 10], b: &[u8; 36]) -> [u8; 3]
+    requires { ⌜ Packed (now b) × Clear (coreB (meant (now w) (now b))) ⌝ }
+    ensures { λ a. ⌜ a ≡ take 3 (drop 4 (pack core (coreValues (meant (now (w .entry)) (now (b .entry)))))) ⌝ }
 {
-    let b4 = byte_4(c.s2xv2_mode, c.multiple_input_stream_flag, c.roll_off);
+    let b4 = byte_4(
+        b[places::S2XV2_MODE],
+        b[places::MULTIPLE_INPUT_STREAM_FLAG],
+        b[places::ROLL_OFF],
+    );
     let b5 = byte_5(
-        c.reserved_zero_future_use_2,
-        c.ncr_reference,
-        c.ncr_version,
-        c.channel_bond,
-        c.polarization,
+        b[places::RESERVED_ZERO_FUTURE_USE_2],
+        b[places::NCR_REFERENCE],
+        b[places::NCR_VERSION],
+        b[places::CHANNEL_BOND],
+        b[places::POLARIZATION],
     );
-    let top = picked(
-        c.has_scrambling_sequence_selector,
-        c.scrambling_sequence_selector,
-        c.reserved_zero_future_use_1,
+    let top = chosen(
+        b[places::HAS_SCRAMBLING_SEQUENCE_SELECTOR],
+        b[places::SCRAMBLING_SEQUENCE_SELECTOR],
+        b[places::RESERVED_ZERO_FUTURE_USE_1],
     );
-    let b6 = byte_6(top, c.ts_gs_s2x_mode, c.receiver_profiles);
+    let b6 = byte_6(top, b[places::TS_GS_S2X_MODE], b[places::RECEIVER_PROFILES]);
     [b4, b5, b6]
 }
 
 // The core, from the start.
-pub(crate) fn put_core(buf: &mut [u8], c: FlatRecord)
-    requires { ⌜ 18 ≤ length (now buf) ⌝ }
-    requires { ⌜ valid c ≡ true ⌝ }
-    requires { ⌜ Clear (coreB (meant c)) ⌝ }
-    ensures { λ _. ⌜ now (buf .exit) ≡ storedFrom (now (buf .entry)) 0 (pack core (coreValues (meant c))) ⌝ }
+pub(crate) fn put_core(buf: &mut [u8], w: &[u32; 10], b: &[u8; 36])
+    requires { ⌜ (18 ≤ length (now buf)) × Packed (now b) ⌝ }
+    requires { ⌜ Clear (coreB (meant (now w) (now b))) ⌝ }
+    ensures { λ _. ⌜ now (buf .exit) ≡ storedFrom (now (buf .entry)) 0 (pack core (coreValues (meant (now (w .entry)) (now (b .entry))))) ⌝ }
 {
-    let flags = flag_bytes(c);
-    put_32(buf, 0, c.delivery_system_id);
+    let flags = flag_bytes(w, b);
+    put_32(buf, 0, w[places::DELIVERY_SYSTEM_ID]);
     copy(buf, 4, &flags);
-    put_24(buf, 7, c.satellite_id);
-    put_32(buf, 10, c.frequency);
-    put_32(buf, 14, c.symbol_rate);
+    put_24(buf, 7, w[places::SATELLITE_ID]);
+    put_32(buf, 10, w[places::FREQUENCY]);
+    put_32(buf, 14, w[places::SYMBOL_RATE]);
 }
 
 // A part of one byte: the input stream identifier, and the timeslice number.
 pub(crate) fn put_byte(buf: &mut [u8], p: usize, there: u8, v: u8) -> usize
-    requires { ⌜ p + sizes (byteParts (8 ∷ []) (some8If (isOne there) v)) ≤ length (now buf) ⌝ }
-    ensures { λ q. ⌜ (q ≡ p + sizes (byteParts (8 ∷ []) (some8If (isOne there) v))) × (now (buf .exit) ≡ storedFrom (now (buf .entry)) p (bytesOf (byteParts (8 ∷ []) (some8If (isOne there) v)) [])) ⌝ }
+    requires { ⌜ p + sizes (byteParts (8 ∷ []) (some8If (isSet there) v)) ≤ length (now buf) ⌝ }
+    ensures place { λ q. ⌜ q ≡ p + sizes (byteParts (8 ∷ []) (some8If (isSet there) v)) ⌝ }
+    ensures stored { λ _. ⌜ now (buf .exit) ≡ storedFrom (now (buf .entry)) p (bytesOf (byteParts (8 ∷ []) (some8If (isSet there) v)) []) ⌝ }
 {
-    if there == 1 {
+    if there != 0 {
         put(buf, p, v);
         p + 1
     } else {
@@ -113,20 +121,14 @@ fn index_word(reserved: u8, index: u32) -> u32
     (reserved as u32) * 262144 + index
 }
 
-// The scrambling sequence index, with what is reserved before it, if its selector is there and set.
-pub(crate) fn put_scrambling(
-    buf: &mut [u8],
-    p: usize,
-    has: u8,
-    selector: u8,
-    reserved: u8,
-    index: u32,
-) -> usize
-    requires { ⌜ p + sizes (scramblingParts (and (isOne has) (isOne selector)) reserved (O32.Some index)) ≤ length (now buf) ⌝ }
-    requires { ⌜ (and (and (isOne has) (isOne selector)) (wide 18 index) ≡ false) × (and (and (isOne has) (isOne selector)) (wide 6 reserved) ≡ false) ⌝ }
-    ensures { λ q. ⌜ (q ≡ p + sizes (scramblingParts (and (isOne has) (isOne selector)) reserved (O32.Some index))) × (now (buf .exit) ≡ storedFrom (now (buf .entry)) p (bytesOf (scramblingParts (and (isOne has) (isOne selector)) reserved (O32.Some index)) [])) ⌝ }
+// The scrambling sequence index, with what is reserved before it, if its selector is set.
+pub(crate) fn put_scrambling(buf: &mut [u8], p: usize, there: u8, reserved: u8, index: u32) -> usize
+    requires { ⌜ p + sizes (scramblingParts (isSet there) reserved (O32.Some index)) ≤ length (now buf) ⌝ }
+    requires { ⌜ (and (isSet there) (wide 18 index) ≡ false) × (and (isSet there) (wide 6 reserved) ≡ false) ⌝ }
+    ensures place { λ q. ⌜ q ≡ p + sizes (scramblingParts (isSet there) reserved (O32.Some index)) ⌝ }
+    ensures stored { λ _. ⌜ now (buf .exit) ≡ storedFrom (now (buf .entry)) p (bytesOf (scramblingParts (isSet there) reserved (O32.Some index)) []) ⌝ }
 {
-    if (has == 1) & (selector == 1) {
+    if there != 0 {
         put_24(buf, p, index_word(reserved, index));
         p + 3
     } else {
@@ -154,7 +156,8 @@ pub(crate) fn put_bonds(
 ) -> usize
     requires { ⌜ p + sizes (bondParts (eqb bond 1) reserved count (first ∷ second ∷ [])) ≤ length (now buf) ⌝ }
     requires { ⌜ (and (eqb bond 1) (wide 1 (lessOne count)) ≡ false) × (and (eqb bond 1) (wide 7 reserved) ≡ false) ⌝ }
-    ensures { λ q. ⌜ (q ≡ p + sizes (bondParts (eqb bond 1) reserved count (first ∷ second ∷ []))) × (now (buf .exit) ≡ storedFrom (now (buf .entry)) p (bytesOf (bondParts (eqb bond 1) reserved count (first ∷ second ∷ [])) [])) ⌝ }
+    ensures place { λ q. ⌜ q ≡ p + sizes (bondParts (eqb bond 1) reserved count (first ∷ second ∷ [])) ⌝ }
+    ensures stored { λ _. ⌜ now (buf .exit) ≡ storedFrom (now (buf .entry)) p (bytesOf (bondParts (eqb bond 1) reserved count (first ∷ second ∷ [])) []) ⌝ }
 {
     if bond == 1 {
         put(buf, p, bond_header(reserved, less_one(count)));
@@ -202,21 +205,24 @@ fn octet(v: u8) -> u8
 }
 
 // The block up to its plan id.
-fn block_bytes(f: FlatSuperframe) -> [u8; 7]
-    requires { ⌜ flags (blockFlags f) ≡ true ⌝ }
-    requires { ⌜ Clear (superframeB (OS.Some (blockIn f))) ⌝ }
-    ensures { λ a. ⌜ a ≡ pack superframe (superframeValues (blockIn f)) ⌝ }
+fn block_bytes(w: &[u32; 10], b: &[u8; 36]) -> [u8; 7]
+    requires { ⌜ Packed (now b) × Clear (superframeB (OS.Some (blockIn (now w) (now b)))) ⌝ }
+    ensures { λ a. ⌜ a ≡ pack superframe (superframeValues (blockIn (now (w .entry)) (now (b .entry)))) ⌝ }
 {
     let reference = be_bytes_24(reference_word(
-        f.sffi_selector,
-        f.beam_hopping_time_plan_selector,
-        f.reserved_zero_future_use_2,
-        f.reference_scrambling_index,
+        b[places::SFFI_SELECTOR],
+        b[places::BEAM_HOPPING_TIME_PLAN_SELECTOR],
+        b[places::SUPERFRAME_RESERVED_ZERO_FUTURE_USE_2],
+        w[places::REFERENCE_SCRAMBLING_INDEX],
     ));
-    let four = picked(f.sffi_selector, f.sffi, f.reserved_zero_future_use_4);
-    let payload = be_bytes_24(payload_word(four, f.payload_scrambling_index));
+    let four = chosen(
+        b[places::SFFI_SELECTOR],
+        b[places::SFFI],
+        b[places::RESERVED_ZERO_FUTURE_USE_4],
+    );
+    let payload = be_bytes_24(payload_word(four, w[places::PAYLOAD_SCRAMBLING_INDEX]));
     [
-        octet(f.sosf_wh_sequence_number),
+        octet(b[places::SOSF_WH_SEQUENCE_NUMBER]),
         reference[0],
         reference[1],
         reference[2],
@@ -228,10 +234,11 @@ fn block_bytes(f: FlatSuperframe) -> [u8; 7]
 
 // The plan id, if its selector is set.
 fn put_plan(buf: &mut [u8], p: usize, there: u8, plan: u32) -> usize
-    requires { ⌜ p + sizes (planParts (isOne there) (O32.Some plan)) ≤ length (now buf) ⌝ }
-    ensures { λ q. ⌜ (q ≡ p + sizes (planParts (isOne there) (O32.Some plan))) × (now (buf .exit) ≡ storedFrom (now (buf .entry)) p (bytesOf (planParts (isOne there) (O32.Some plan)) [])) ⌝ }
+    requires { ⌜ p + sizes (planParts (isSet there) (O32.Some plan)) ≤ length (now buf) ⌝ }
+    ensures place { λ q. ⌜ q ≡ p + sizes (planParts (isSet there) (O32.Some plan)) ⌝ }
+    ensures stored { λ _. ⌜ now (buf .exit) ≡ storedFrom (now (buf .entry)) p (bytesOf (planParts (isSet there) (O32.Some plan)) []) ⌝ }
 {
-    if there == 1 {
+    if there != 0 {
         put_32(buf, p, plan);
         p + 4
     } else {
@@ -240,31 +247,38 @@ fn put_plan(buf: &mut [u8], p: usize, there: u8, plan: u32) -> usize
 }
 
 // The superframe block: its first seven bytes, the plan id if its selector is set, and the last byte.
-fn put_block(buf: &mut [u8], p: usize, f: FlatSuperframe) -> usize
-    requires { ⌜ p + sizes (blockParts (blockIn f)) ≤ length (now buf) ⌝ }
-    requires { ⌜ flags (blockFlags f) ≡ true ⌝ }
-    requires { ⌜ Clear (superframeB (OS.Some (blockIn f))) ⌝ }
-    ensures { λ q. ⌜ (q ≡ p + sizes (blockParts (blockIn f))) × (now (buf .exit) ≡ storedFrom (now (buf .entry)) p (bytesOf (blockParts (blockIn f)) [])) ⌝ }
+fn put_block(buf: &mut [u8], p: usize, w: &[u32; 10], b: &[u8; 36]) -> usize
+    requires { ⌜ p + sizes (blockParts (blockIn (now w) (now b))) ≤ length (now buf) ⌝ }
+    requires { ⌜ Packed (now b) × Clear (superframeB (OS.Some (blockIn (now w) (now b)))) ⌝ }
+    ensures place { λ q. ⌜ q ≡ p + sizes (blockParts (blockIn (now (w .entry)) (now (b .entry)))) ⌝ }
+    ensures stored { λ _. ⌜ now (buf .exit) ≡ storedFrom (now (buf .entry)) p (bytesOf (blockParts (blockIn (now (w .entry)) (now (b .entry)))) []) ⌝ }
 {
-    let block = block_bytes(f);
-    let last = last_byte(f.superframe_pilots_wh_sequence_number, f.postamble_pli);
+    let block = block_bytes(w, b);
+    let last = last_byte(
+        b[places::SUPERFRAME_PILOTS_WH_SEQUENCE_NUMBER],
+        b[places::POSTAMBLE_PLI],
+    );
     copy(buf, p, &block);
     let q = put_plan(
         buf,
         p + 7,
-        f.beam_hopping_time_plan_selector,
-        f.beamhopping_time_plan_id,
+        b[places::BEAM_HOPPING_TIME_PLAN_SELECTOR],
+        w[places::BEAMHOPPING_TIME_PLAN_ID],
     );
     put(buf, q, last);
     q + 1
 }
 
 // The superframe block, if it is there.
-pub(crate) fn put_superframe(buf: &mut [u8], p: usize, there: u8, f: FlatSuperframe) -> usize
-    requires { ⌜ p + sizes (superframeParts (someSuperframeIf (isOne there) (blockIn f))) ≤ length (now buf) ⌝ }
-    requires { ⌜ allowed there (flags (blockFlags f)) ≡ true ⌝ }
-    requires { ⌜ Clear (superframeB (someSuperframeIf (isOne there) (blockIn f))) ⌝ }
-    ensures { λ q. ⌜ (q ≡ p + sizes (superframeParts (someSuperframeIf (isOne there) (blockIn f)))) × (now (buf .exit) ≡ storedFrom (now (buf .entry)) p (bytesOf (superframeParts (someSuperframeIf (isOne there) (blockIn f))) [])) ⌝ }
+pub(crate) fn put_superframe(buf: &mut [u8], p: usize, w: &[u32; 10], b: &[u8; 36]) -> usize
+    requires { ⌜ p + sizes (superframeOf (meant (now w) (now b))) ≤ length (now buf) ⌝ }
+    requires { ⌜ Packed (now b) × Clear (superframeB (meant (now w) (now b) .superframe)) ⌝ }
+    ensures place { λ q. ⌜ q ≡ p + sizes (superframeOf (meant (now (w .entry)) (now (b .entry)))) ⌝ }
+    ensures stored { λ _. ⌜ now (buf .exit) ≡ storedFrom (now (buf .entry)) p (bytesOf (superframeOf (meant (now (w .entry)) (now (b .entry)))) []) ⌝ }
 {
-    if there == 1 { put_block(buf, p, f) } else { p }
+    if b[places::HAS_SUPERFRAME] != 0 {
+        put_block(buf, p, w, b)
+    } else {
+        p
+    }
 }

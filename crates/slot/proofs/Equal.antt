@@ -10,6 +10,7 @@ use Rattle.answers.specs.Answer.{numberOf}
 use Rattle.s2xv2.specs.Read.{Reading}
 use Rattle.s2xv2.specs.declared.record.S2Xv2SatelliteDeliverySystem.{S2Xv2SatelliteDeliverySystem}
 use Rattle.answers.proofs.Answers.{refusalOf, refusal-back, refused-number}
+use Rattle.s2xv2_plain.specs.Output.{numbersOf, bytesOf}
 use Rattle.slot.specs.declared.answer.SlotAnswer.{SlotAnswer}
 use Rattle.slot.specs.declared.answer.SlotAnswer.the-variants as A
 use Rattle.slot.specs.declared.answer.SlotRead.{SlotRead}
@@ -41,6 +42,12 @@ same-seen a b e =
 -- `read::read`
 pub read-equal : (s : List ℕ) (a b : SlotRead) → slotSeen a ≡ shown s .reading → slotSeen b ≡ shown s .reading → a ≡ b
 read-equal s a b p q = same-seen a b (p ∙ sym q)
+
+-- `read::read_into`: the answer, and what is stored
+pub read-into-equal : (s v w x y : List ℕ) (a b : SlotAnswer)
+    → (slotTold a ≡ shown s .reading .told) × (v ≡ numbersOf (shown s .reading .body)) × (x ≡ bytesOf (shown s .reading .body))
+    → (slotTold b ≡ shown s .reading .told) × (w ≡ numbersOf (shown s .reading .body)) × (y ≡ bytesOf (shown s .reading .body)) → (a ≡ b) × (v ≡ w) × (x ≡ y)
+read-into-equal s v w x y a b p q = (same-slot-told a b (p .0 ∙ sym (q .0)), p .1 ∙ sym (q .1), p .2 ∙ sym (q .2))
 
 -- `read::reserved_tail`: the bytes of the part
 pub reserved-tail-equal : (s a b : List ℕ) → a ≡ shown s .tail → b ≡ shown s .tail → a ≡ b

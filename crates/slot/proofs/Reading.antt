@@ -1,24 +1,27 @@
--- What reading a slot answers, by the way through the code: the form, the first tag, and the reader's answer for the body.
+-- What reading a slot answers, by the way through the code: the form, the first tag, and the reader's answer for the body. The record that is shown comes back
+-- from the arrays that it was stored into (`slot-back`).
 -- Assumes nothing.
 use mathlib.Core.Path.{_≡_, refl, sym, ap, _∙_}
-use mathlib.Core.Bool.{true, false}
+use mathlib.Core.Bool.{Bool, true, false}
 use mathlib.Core.List.{List, [], _∷_}
 use Prim.Native.Nat.{ℕ, _+_, _-_, _≤_}
 use native.Mathlib.Omega.{arith}
+use lib.Dec.{eqb}
 use lib.ListN.{length, take, drop, length-take, length-drop}
 use Rattle.answers.proofs.Answers.{refused-number}
 use Rattle.answers.specs.declared.answer.Refusal.{Refusal}
-use Rattle.answers.specs.Answer.{numbers, told}
-use Rattle.answers.specs.declared.answer.Answer.{Answer}
-use Rattle.s2xv2.specs.Read.{Reading, readTold, readOf, tailOf}
+use Rattle.answers.specs.Answer.{numbers}
+use Rattle.wire.specs.Flags.{when}
+use Rattle.s2xv2.specs.Default.{defaultRecord}
+use Rattle.s2xv2.specs.Read.{readTold, readOf, tailOf}
 use Rattle.s2xv2.proofs.Reach.{accepted-tail}
-use Rattle.s2xv2_reader.specs.Seen.{seen}
-use Rattle.s2xv2_reader.specs.declared.Parsed.{Parsed}
-use Rattle.slot.specs.declared.answer.SlotAnswer.{SlotAnswer}
+use Rattle.s2xv2_plain.specs.Input.{meant}
+use Rattle.s2xv2_plain.specs.Output.{numbersOf, bytesOf}
+use Rattle.s2xv2_plain.proofs.Back.{back}
+use Rattle.s2xv2_reader.proofs.Shown.{shown-back}
 use Rattle.form.specs.Envelope.{stuffingTag}
 use Rattle.form.specs.Form.{byteAt, bodyIn, goodForm}
-use Rattle.slot.specs.Answer.{slotTold, slotSeen}
-use Rattle.slot.specs.Read.{Shown, showsNone, showsBody, placed, shown}
+use Rattle.slot.specs.Read.{Shown, showsNone, showsEmpty, showsBody, placed, shown}
 use Rattle.form.proofs.GoodForm.{form-size}
 use Rattle.slot.proofs.Laws.{shown-body}
 
@@ -39,34 +42,37 @@ placed-refused size why = rw (refused-number why)
 
 -- ---- a slot that holds a body
 
--- what is answered for it, without the record
-module _ (s b : List ℕ) (a : Answer) (f : goodForm s ≡ true) (t : byteAt s 0 ≡ stuffingTag → ⊥) (e : b ≡ bodyIn s) (q : told a ≡ readTold b) where
-  pub told-within-body : (n : ℕ) → 0 ∷ n ∷ [] ≡ told a → n ≤ length b
-  told-within-body n h = accepted-tail b n (h ∙ q) .1
-
-  pub answers-body : (x : SlotAnswer) → slotTold x ≡ placed (length b) (told a) → slotTold x ≡ shown s .reading .told
-  unfolding showsBody
-  answers-body x h =
-      h
-      ∙ ap (placed (length b)) q
-      ∙ ap (λ (body : List ℕ). showsBody body .reading .told) e
-      ∙ sym (ap (λ (y : Shown). y .reading .told) (shown-body s f t))
-
--- .. and with it
-module _ (s b : List ℕ) (p : Parsed) (f : goodForm s ≡ true) (t : byteAt s 0 ≡ stuffingTag → ⊥) (e : b ≡ bodyIn s) where
-  pub place-within : seen p ≡ readOf b → (n : ℕ) → 0 ∷ n ∷ [] ≡ told (p .answer) → n ≤ length b
-  place-within q n h = accepted-tail b n (h ∙ ap (λ (x : Reading). x .told) q) .1
-
-  pub reads-body : seen p ≡ readOf b → (a : SlotAnswer) → slotTold a ≡ placed (length b) (told (p .answer)) → slotSeen (record { answer = a; body = p .body }) ≡ shown s .reading
-  unfolding showsBody
-  reads-body q a h =
-      ap {B = Reading} (λ (l : List ℕ). record { told = l; body = p .body }) h
-      ∙ ap {B = Reading} (λ (x : Reading). record { told = placed (length b) (x .told); body = x .body }) q
-      ∙ ap (λ (body : List ℕ). showsBody body .reading) e
-      ∙ sym (ap (λ (x : Shown). x .reading) (shown-body s f t))
-
--- .. and its tail
 module _ (s b : List ℕ) (f : goodForm s ≡ true) (t : byteAt s 0 ≡ stuffingTag → ⊥) (e : b ≡ bodyIn s) where
-  pub tail-body : (x : List ℕ) → x ≡ tailOf b → x ≡ shown s .tail
+  shows-body : showsBody b ≡ shown s
+  shows-body = ap showsBody e ∙ sym (shown-body s f t)
+
+  pub tells-body : placed (length b) (readTold b) ≡ shown s .reading .told
   unfolding showsBody
-  tail-body x h = h ∙ ap (λ (body : List ℕ). showsBody body .tail) e ∙ sym (ap (λ (y : Shown). y .tail) (shown-body s f t))
+  tells-body = ap (λ (x : Shown). x .reading .told) shows-body
+
+  pub holds-body : readOf b .body ≡ shown s .reading .body
+  unfolding showsBody
+  holds-body = ap (λ (x : Shown). x .reading .body) shows-body
+
+  pub tail-body : tailOf b ≡ shown s .tail
+  unfolding showsBody
+  tail-body = ap (λ (x : Shown). x .tail) shows-body
+
+-- the tail of a body that is accepted starts inside it
+pub starts-within : (b l : List ℕ) → l ≡ readTold b → (n : ℕ) → 0 ∷ n ∷ [] ≡ l → n ≤ length b
+starts-within b l q n h = accepted-tail b n (h ∙ q) .1
+
+-- ---- the record
+
+-- that which is shown is what its plain numbers mean
+abbrev pub Back : Shown → Type 0
+Back x = meant (numbersOf (x .reading .body)) (bytesOf (x .reading .body)) ≡ x .reading .body
+
+pub slot-back : (s : List ℕ) → Back (shown s)
+unfolding shown showsBody defaultRecord
+slot-back s = go (goodForm s) (eqb (byteAt s 0) stuffingTag)
+  where
+    go : (f t : Bool) → Back (when f (when t showsEmpty (showsBody (bodyIn s))) showsNone)
+    go true true = back defaultRecord refl
+    go true false = shown-back (bodyIn s)
+    go false t = back defaultRecord refl

@@ -2,13 +2,39 @@
 
 pub const COUNT: usize = 1000;
 
-/// Which bodies: all kinds, those without ids, those without a tail, or those that have the core alone.
+/// Which bodies: all kinds, those without ids, those without a tail, or all kinds and each cut; of mode 1 without a part behind the core, or of
+/// mode 5 with every part, both without a tail; or those that have the core alone, with no tail or with one of so many bytes.
 #[derive(Clone, Copy, PartialEq)]
 pub enum Set {
     Mixed,
     NoIds,
     NoTail,
+    Cut,
+    Mode1,
+    Mode5,
     Core,
+    Tail(usize),
+}
+
+impl Set {
+    /// Those that have a row.
+    pub const ROWS: [(&'static str, Set); 11] = [
+        ("mixed", Set::Mixed),
+        ("no-ids", Set::NoIds),
+        ("no-tail", Set::NoTail),
+        ("cut", Set::Cut),
+        ("mode-1", Set::Mode1),
+        ("mode-5", Set::Mode5),
+        ("tail-0", Set::Tail(0)),
+        ("tail-31", Set::Tail(31)),
+        ("tail-64", Set::Tail(64)),
+        ("tail-1024", Set::Tail(1024)),
+        ("tail-4078", Set::Tail(4078)),
+    ];
+
+    pub fn named(name: &str) -> Option<Set> {
+        Set::ROWS.iter().find(|row| row.0 == name).map(|row| row.1)
+    }
 }
 
 /// A generator of numbers, of which the high bits are used.
@@ -60,7 +86,19 @@ fn shape(d: &mut Draws, set: Set) -> Shape {
     };
     match set {
         Set::NoIds if drawn.bond == 1 => Shape { bond: 0, ..drawn },
-        Set::Core => Shape {
+        Set::Mode1 => Shape {
+            mode: 1,
+            stream: 0,
+            bond: drawn.bond & 2,
+            selector: 0,
+        },
+        Set::Mode5 => Shape {
+            mode: 5,
+            stream: 1,
+            bond: 1,
+            ..drawn
+        },
+        Set::Core | Set::Tail(_) => Shape {
             mode: 6 + drawn.mode % 10,
             stream: 0,
             bond: drawn.bond & 2,
@@ -80,11 +118,12 @@ fn core(d: &mut Draws, s: &Shape) -> Vec<u8> {
     body
 }
 
-/// The superframe block, with either selector set or clear.
-fn superframe(d: &mut Draws, body: &mut Vec<u8>) {
-    let plan = d.below(2);
+/// The superframe block, with either selector set or clear, or both set.
+fn superframe(d: &mut Draws, set: Set, body: &mut Vec<u8>) {
+    let all = u32::from(set == Set::Mode5);
+    let plan = d.below(2) | all;
     d.bytes(1, body);
-    body.push((d.below(2) * 128 + plan * 64 + d.some(2) * 16 + d.some(4)) as u8);
+    body.push(((d.below(2) | all) * 128 + plan * 64 + d.some(2) * 16 + d.some(4)) as u8);
     d.bytes(2, body);
     body.push((d.some(4) * 16 + d.some(4)) as u8);
     d.bytes(2 + 4 * plan as usize, body);
@@ -102,17 +141,17 @@ fn parts(d: &mut Draws, set: Set) -> Vec<u8> {
     }
     d.bytes([2, 5].contains(&s.mode).into(), &mut body);
     if s.bond == 1 {
-        let second = d.below(2);
+        let second = d.below(2) | u32::from(set == Set::Mode5);
         body.push((d.some(7) * 2 + second) as u8);
         d.bytes(4 + 4 * second as usize, &mut body);
     }
     if [4, 5].contains(&s.mode) {
-        superframe(d, &mut body);
+        superframe(d, set, &mut body);
     }
     body
 }
 
-/// A body, and the place before the end of its parts at which it is cut, if it is the eighth.
+/// A body, and the place before the end of its parts at which it is cut, if it is one that is.
 pub struct Body {
     pub bytes: Vec<u8>,
     cut: Option<usize>,
@@ -132,13 +171,19 @@ fn body(number: usize, set: Set) -> Body {
     }
     let mut bytes = parts(&mut d, set);
     let place = d.below(bytes.len() as u32) as usize;
-    if set == Set::Mixed || set == Set::NoIds {
-        let tail = d.below(9) as usize;
-        d.bytes(tail, &mut bytes);
-    }
+    let tail = match set {
+        Set::Mixed | Set::NoIds | Set::Cut => d.below(9) as usize,
+        Set::Tail(length) => length,
+        _ => 0,
+    };
+    d.bytes(tail, &mut bytes);
+    let cut = match set {
+        Set::Mixed | Set::NoIds | Set::NoTail => number % 8 == 7,
+        other => other == Set::Cut,
+    };
     Body {
         bytes,
-        cut: (number % 8 == 7).then_some(place),
+        cut: cut.then_some(place),
     }
 }
 

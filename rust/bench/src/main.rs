@@ -1,12 +1,17 @@
 //! Runs one row, so that the instructions of two runs with different repeats can be subtracted; prints the number of calls that it made.
 //!
-//!     bench parse|serialize|length crate|library|safe|empty SET REPEATS
+//!     bench parse|serialize|length crate|library|raw|safe|empty SET REPEATS
 //!     bench allocate crate SET REPEATS
-//!     bench begin library|empty SLOT REPEATS
+//!     bench tail library|empty SET REPEATS
+//!     bench slot-read library|raw|safe|empty held|empty REPEATS
+//!     bench slot-tail library|empty held|empty REPEATS
+//!     bench make-empty library|safe|empty SIZE REPEATS
+//!     bench begin library|raw|safe|empty SLOT REPEATS
 //!     bench job value|place|empty SLOT/ALLOWANCE REPEATS
 //!     bench agree                  tells whether all sides do the same on every input, and the inputs are as docs/SPEED.md says
 //!
-//! SET is `mixed`, `no-ids` or `no-tail`. SLOT is a size, with `=` behind it for descriptors that fill it; an ALLOWANCE may be `all`. The side `empty` is the loop with no call in it.
+//! SET is `mixed`, `no-ids`, `no-tail`, `cut`, `mode-1`, `mode-5`, or `tail-` with 0, 31, 64, 1024 or 4078. SLOT is a size, with `=` behind it
+//! for descriptors that fill it; an ALLOWANCE may be `all`. The side `empty` is the loop with no call in it.
 mod boundary;
 mod inputs;
 mod rows;
@@ -16,22 +21,17 @@ use inputs::{bodies, Set};
 use slots::Kind;
 use std::process::ExitCode;
 
-fn set(name: &str) -> Option<Set> {
-    Some(match name {
-        "mixed" => Set::Mixed,
-        "no-ids" => Set::NoIds,
-        "no-tail" => Set::NoTail,
-        _ => return None,
-    })
-}
-
 fn row(name: &str, side: &str, inputs: &str, repeats: &str) -> Option<usize> {
     let repeats: usize = repeats.parse().ok()?;
     match name {
-        "parse" => rows::parse(side, &bodies(set(inputs)?), repeats),
-        "serialize" => rows::serialize(side, &bodies(set(inputs)?), repeats),
-        "length" => rows::length(side, &bodies(set(inputs)?), repeats),
-        "allocate" => Some(rows::allocate(&bodies(set(inputs)?), repeats)),
+        "parse" => rows::parse(side, &bodies(Set::named(inputs)?), repeats),
+        "serialize" => rows::serialize(side, Set::named(inputs)?, &bodies(Set::named(inputs)?), repeats),
+        "length" => rows::length(side, &bodies(Set::named(inputs)?), repeats),
+        "allocate" => Some(rows::allocate(&bodies(Set::named(inputs)?), repeats)),
+        "tail" => rows::tail(side, &bodies(Set::named(inputs)?), repeats),
+        "slot-read" => slots::read(side, inputs, repeats),
+        "slot-tail" => slots::tail(side, inputs, repeats),
+        "make-empty" => slots::make_empty(side, inputs.parse().ok()?, repeats),
         "begin" => slots::begin(side, slot(inputs)?, repeats),
         "job" => job(side, inputs, repeats),
         _ => None,
@@ -56,9 +56,19 @@ fn job(side: &str, inputs: &str, repeats: usize) -> Option<usize> {
 }
 
 fn agree() -> Option<usize> {
-    let sets = [Set::Mixed, Set::NoIds, Set::NoTail];
-    let covered = rows::covered(&bodies(Set::Mixed));
-    (slots::agree() && covered && sets.iter().all(|set| rows::agree(&bodies(*set)))).then_some(sets.len() * inputs::COUNT)
+    let shaped = Set::ROWS.iter().all(|(_, set)| {
+        let bodies = bodies(*set);
+        let shape = match *set {
+            Set::Mixed => rows::covered(&bodies),
+            Set::Cut => rows::refused(&bodies) == inputs::COUNT,
+            Set::Mode1 => rows::of_length(&bodies, 18),
+            Set::Mode5 => rows::of_length(&bodies, 41),
+            Set::Tail(length) => rows::of_length(&bodies, 18 + length),
+            _ => rows::refused(&bodies) * 8 == inputs::COUNT,
+        };
+        shape && rows::agree(&bodies)
+    });
+    (slots::agree() && shaped).then_some(Set::ROWS.len() * inputs::COUNT)
 }
 
 fn main() -> ExitCode {

@@ -1,13 +1,16 @@
-//! Reading, measuring and writing, by the crate, by the library through its boundary, and by the safe crate over it. The bodies that are read are cut where they are cut; the records that are written are
-//! those of the same bodies uncut, made beforehand by the side that writes them.
-use crate::boundary::{self, s2xv2_parse, s2xv2_serialize_into, s2xv2_serialized_len};
-use crate::inputs::Body;
+//! Reading, measuring and writing, by the crate, by the library through its boundary, and by the safe crate over it, as a raw record and as
+//! the typed one. The bodies that are read are cut where they are cut; the records that are written are those of the same bodies uncut, made
+//! beforehand by the side that writes them.
+use crate::boundary;
+use crate::inputs::{Body, Set};
 use core::hint::black_box;
 use origin::descriptors::extension::s2xv2_satellite_delivery_system::S2Xv2SatelliteDeliverySystem as Record;
 use origin::descriptors::extension::{Parse, Serialize};
-use s2xv2::S2Xv2SatelliteDeliverySystem as Safe;
+use s2xv2::{RawRecord, S2Xv2SatelliteDeliverySystem as Safe};
 
+/// The room for records with a tail of at most 8 bytes, and for those with a long one.
 pub const ROOM: usize = 64;
+pub const LONG: usize = 4096;
 
 /// The one loop of all rows: each input is hidden from the compiler before the call, and each result is kept after it. Tells how many calls
 /// were made.
@@ -20,34 +23,51 @@ pub fn drive<I: Copy, R>(inputs: &[I], repeats: usize, mut call: impl FnMut(I) -
     repeats * inputs.len()
 }
 
-/// The library's record, with the tail that stands in the crate's.
-pub struct Own<'a> {
-    pub record: boundary::Record,
+/// A record of zeros, to be lent.
+pub fn zeros() -> boundary::Record {
+    boundary::Record {
+        numbers: [0; 10],
+        bytes: [0; 36],
+    }
+}
+
+/// The library's record, or the raw one, with the tail that stands in the crate's.
+pub struct Own<'a, R = boundary::Record> {
+    pub record: R,
     pub tail: &'a [u8],
 }
 
 pub fn own(body: &[u8]) -> Own<'_> {
-    let parsed = unsafe { s2xv2_parse(body.as_ptr(), body.len()) };
-    assert_eq!(parsed.answer.number, 0);
+    let mut record = zeros();
+    let answer = boundary::parse(body, &mut record);
+    assert_eq!(answer.number, 0);
     Own {
-        record: parsed.body,
-        tail: &body[parsed.answer.first..],
+        record,
+        tail: &body[answer.first.into()..],
     }
+}
+
+pub fn raw(body: &[u8]) -> Own<'_, RawRecord> {
+    let (record, tail) = RawRecord::parse(body).expect("an uncut body");
+    Own { record, tail }
 }
 
 fn theirs(body: &[u8]) -> Record<'_> {
     Record::parse(body).expect("an uncut body")
 }
 
-fn safe(body: &[u8]) -> Safe<'_> {
+pub fn safe(body: &[u8]) -> Safe<'_> {
     Safe::parse(body).expect("an uncut body")
 }
 
+/// The library and the raw record read into one record, which is lent to every call.
 pub fn parse(side: &str, bodies: &[Body], repeats: usize) -> Option<usize> {
     let bodies: Vec<&[u8]> = bodies.iter().map(Body::lent).collect();
+    let (mut lent, mut record) = (zeros(), RawRecord::default());
     Some(match side {
         "crate" => drive(&bodies, repeats, |body| Record::parse(body)),
-        "library" => drive(&bodies, repeats, |body| unsafe { s2xv2_parse(body.as_ptr(), body.len()) }),
+        "library" => drive(&bodies, repeats, |body| boundary::parse(body, black_box(&mut lent))),
+        "raw" => drive(&bodies, repeats, |body| black_box(&mut record).parse_into(body)),
         "safe" => drive(&bodies, repeats, |body| Safe::parse(body)),
         "empty" => drive(&bodies, repeats, |body| body.len()),
         _ => return None,
@@ -65,67 +85,90 @@ pub fn allocate(bodies: &[Body], repeats: usize) -> usize {
     })
 }
 
-fn by_crate<R>(bodies: &[Body], repeats: usize, call: impl FnMut(&Record) -> R) -> usize {
-    let records: Vec<Record> = bodies.iter().map(|body| theirs(&body.bytes)).collect();
+/// The records of the bodies, by the side that makes them.
+fn of<'a, T, R>(bodies: &'a [Body], repeats: usize, made: impl Fn(&'a [u8]) -> T, call: impl FnMut(&T) -> R) -> usize {
+    let records: Vec<T> = bodies.iter().map(|body| made(&body.bytes)).collect();
     drive(&records.iter().collect::<Vec<_>>(), repeats, call)
 }
 
-fn by_safe<R>(bodies: &[Body], repeats: usize, call: impl FnMut(&Safe) -> R) -> usize {
-    let records: Vec<Safe> = bodies.iter().map(|body| safe(&body.bytes)).collect();
-    drive(&records.iter().collect::<Vec<_>>(), repeats, call)
-}
-
-fn by_library<R>(bodies: &[Body], repeats: usize, call: impl FnMut(&Own) -> R) -> usize {
-    let records: Vec<Own> = bodies.iter().map(|body| own(&body.bytes)).collect();
-    drive(&records.iter().collect::<Vec<_>>(), repeats, call)
+pub fn serialize(side: &str, set: Set, bodies: &[Body], repeats: usize) -> Option<usize> {
+    match set {
+        Set::Tail(_) => serialize_in::<LONG>(side, bodies, repeats),
+        _ => serialize_in::<ROOM>(side, bodies, repeats),
+    }
 }
 
 /// Into one buffer, which nobody clears.
-pub fn serialize(side: &str, bodies: &[Body], repeats: usize) -> Option<usize> {
-    let mut buffer = [0u8; ROOM];
+fn serialize_in<const N: usize>(side: &str, bodies: &[Body], repeats: usize) -> Option<usize> {
+    let mut buffer = [0u8; N];
     Some(match side {
-        "crate" => by_crate(bodies, repeats, |record| record.serialize_into(&mut buffer)),
-        "library" => by_library(bodies, repeats, |own| written(own, &mut buffer)),
-        "safe" => by_safe(bodies, repeats, |record| record.serialize_into(&mut buffer)),
-        "empty" => by_library(bodies, repeats, |own| own.tail.len()),
+        "crate" => of(bodies, repeats, theirs, |record| record.serialize_into(&mut buffer)),
+        "library" => of(bodies, repeats, own, |own| {
+            boundary::serialize_into(&own.record, own.tail, &mut buffer)
+        }),
+        "raw" => of(bodies, repeats, raw, |own| own.record.serialize_into(own.tail, &mut buffer)),
+        "safe" => of(bodies, repeats, safe, |record| record.serialize_into(&mut buffer)),
+        "empty" => of(bodies, repeats, own, |own| own.tail.len()),
         _ => return None,
     })
 }
 
-#[inline(always)]
-fn written(own: &Own, buffer: &mut [u8]) -> boundary::Answer {
-    let (tail, room) = (own.tail, buffer.len());
-    unsafe { s2xv2_serialize_into(own.record, tail.as_ptr(), tail.len(), buffer.as_mut_ptr(), room) }
-}
-
 pub fn length(side: &str, bodies: &[Body], repeats: usize) -> Option<usize> {
     Some(match side {
-        "crate" => by_crate(bodies, repeats, |record| record.serialized_len()),
-        "library" => by_library(bodies, repeats, |own| unsafe {
-            s2xv2_serialized_len(own.record, own.tail.as_ptr(), own.tail.len())
-        }),
-        "safe" => by_safe(bodies, repeats, |record| record.serialized_len()),
-        "empty" => by_library(bodies, repeats, |own| own.tail.len()),
+        "crate" => of(bodies, repeats, theirs, |record| record.serialized_len()),
+        "library" => of(bodies, repeats, own, |own| boundary::serialized_len(&own.record, own.tail)),
+        "raw" => of(bodies, repeats, raw, |own| own.record.serialized_len(own.tail)),
+        "safe" => of(bodies, repeats, safe, |record| record.serialized_len()),
+        "empty" => of(bodies, repeats, own, |own| own.tail.len()),
+        _ => return None,
+    })
+}
+
+/// The tail of a body by itself, through the boundary.
+pub fn tail(side: &str, bodies: &[Body], repeats: usize) -> Option<usize> {
+    let bodies: Vec<&[u8]> = bodies.iter().map(Body::lent).collect();
+    Some(match side {
+        "library" => drive(&bodies, repeats, boundary::reserved_tail),
+        "empty" => drive(&bodies, repeats, |body| body.len()),
         _ => return None,
     })
 }
 
 /// That all sides accept the same bodies, measure the same lengths and write the same bytes.
 pub fn agree(bodies: &[Body]) -> bool {
-    bodies.iter().all(|body| {
-        let lent = body.lent();
-        let parsed = unsafe { s2xv2_parse(lent.as_ptr(), lent.len()) };
-        let accepted = [parsed.answer.number == 0, Safe::parse(lent).is_ok()] == [Record::parse(lent).is_ok(); 2];
-        let (record, own, safe) = (theirs(&body.bytes), own(&body.bytes), safe(&body.bytes));
-        let measured = unsafe { s2xv2_serialized_len(own.record, own.tail.as_ptr(), own.tail.len()) };
-        let (mut a, mut b, mut c) = ([0; ROOM], [0; ROOM], [0; ROOM]);
-        let length = record.serialize_into(&mut a).expect("a record that was read");
-        let answer = written(&own, &mut b);
-        let told = [answer.number, answer.first, measured.number, measured.first];
-        let crossed = [safe.serialize_into(&mut c), safe.serialized_len()] == [Ok(length); 2];
-        let tails = [own.tail, safe.reserved_tail] == [record.reserved_tail; 2];
-        accepted && tails && crossed && told == [0, length, 0, record.serialized_len()] && a == b && a == c
-    })
+    bodies.iter().all(|body| read_alike(body.lent()) && written_alike(&body.bytes))
+}
+
+fn read_alike(body: &[u8]) -> bool {
+    let (mut lent, mut record) = (zeros(), RawRecord::default());
+    let answer = boundary::parse(body, &mut lent);
+    let raw = record.parse_into(body);
+    let part = boundary::reserved_tail(body);
+    let theirs = Record::parse(body);
+    let tail = theirs
+        .as_ref()
+        .map_or(0..0, |record| body.len() - record.reserved_tail.len()..body.len());
+    let accepted = [answer.number == 0, raw.is_ok(), Safe::parse(body).is_ok()] == [theirs.is_ok(); 3];
+    accepted && (answer.number != 0 || raw == Ok(answer.first.into())) && (part.place..part.place + part.length) == tail
+}
+
+fn written_alike(body: &[u8]) -> bool {
+    let (record, own, raw, safe) = (theirs(body), own(body), raw(body), safe(body));
+    let (mut a, mut b, mut c, mut d) = ([0; LONG], [0; LONG], [0; LONG], [0; LONG]);
+    let length = record.serialize_into(&mut a).expect("a record that was read");
+    let answers = [
+        boundary::serialize_into(&own.record, own.tail, &mut b),
+        boundary::serialized_len(&own.record, own.tail),
+    ];
+    let told = answers.map(|answer| (answer.number, usize::from(answer.first))) == [(0, length); 2];
+    let crossed = [
+        raw.record.serialize_into(raw.tail, &mut c),
+        raw.record.serialized_len(raw.tail),
+        safe.serialize_into(&mut d),
+        safe.serialized_len(),
+    ] == [Ok(length); 4];
+    let tails = [own.tail, raw.tail, safe.reserved_tail] == [record.reserved_tail; 3];
+    told && crossed && tails && record.serialized_len() == length && [b, c, d] == [a; 3]
 }
 
 /// That every mode, flag, bond, selector, number of ids, pair of the superframe's selectors and length of a tail up to 8 comes up, and that
@@ -144,6 +187,15 @@ pub fn covered(bodies: &[Body]) -> bool {
         }
         seen[6] |= 1 << r.reserved_tail.len();
     }
-    let refused = bodies.iter().filter(|body| Record::parse(body.lent()).is_err()).count();
-    seen == [0xFFFF, 3, 15, 7, 7, 15, 0x1FF] && refused * 8 == bodies.len()
+    seen == [0xFFFF, 3, 15, 7, 7, 15, 0x1FF] && refused(bodies) * 8 == bodies.len()
+}
+
+/// How many of the bodies are refused.
+pub fn refused(bodies: &[Body]) -> usize {
+    bodies.iter().filter(|body| Record::parse(body.lent()).is_err()).count()
+}
+
+/// That each body has so many bytes and is accepted.
+pub fn of_length(bodies: &[Body], length: usize) -> bool {
+    refused(bodies) == 0 && bodies.iter().all(|body| body.lent().len() == length)
 }

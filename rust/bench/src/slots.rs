@@ -1,11 +1,15 @@
-//! Beginning a job and making all of its stores. The slots are empty at first and are used again as the job before left them.
-use crate::boundary::{s2xv2_begin, s2xv2_step, s2xv2_step_in_place, Begun, Job, Stepped};
+//! Reading and emptying slots, beginning a job and making all of its stores. The slots of jobs are empty at first and are used again as the
+//! job before left them.
+use crate::boundary::{self, Job, Stepped};
 use crate::inputs::{self, Set};
-use crate::rows::{drive, own, Own};
+use crate::rows::{drive, own, raw, safe, zeros, Own};
 use core::hint::black_box;
+use s2xv2::{read_slot, RawRecord, S2Xv2SatelliteDeliverySystem as Safe, Slot};
 
 /// Whole jobs are long: so many of the records have one.
 const JOBS: usize = 100;
+/// The size of the slots that are read.
+const READ: usize = 64;
 
 fn empty_slot(size: usize) -> Vec<u8> {
     let mut slot = vec![0xFF; size];
@@ -31,17 +35,95 @@ fn bodies(kind: Kind) -> Vec<Vec<u8>> {
     bodies
 }
 
-#[inline(always)]
-fn begun(slot: &[u8], own: &Own) -> Begun {
-    unsafe { s2xv2_begin(slot.as_ptr(), slot.len(), own.record, own.tail.as_ptr(), own.tail.len()) }
+/// Slots that hold the mixed bodies uncut, or empty ones.
+fn slots(held: bool) -> Vec<Vec<u8>> {
+    let kind = Kind { size: READ, filled: false };
+    let body_of = |body: Vec<u8>| {
+        let mut slot = empty_slot(READ);
+        if held {
+            let end = body.len() + 3;
+            slot[..3].copy_from_slice(&[0x7F, (end - 2) as u8, 0x24]);
+            slot[3..end].copy_from_slice(&body);
+            slot[end..end + 2].copy_from_slice(&[0x42, (READ - end - 2) as u8]);
+        }
+        slot
+    };
+    bodies(kind).into_iter().map(body_of).collect()
 }
 
+/// Reading slots: `held` or `empty`.
+pub fn read(side: &str, what: &str, repeats: usize) -> Option<usize> {
+    let slots = slots(held(what)?);
+    let slots: Vec<&[u8]> = slots.iter().map(Vec::as_slice).collect();
+    let (mut lent, mut record) = (zeros(), RawRecord::default());
+    Some(match side {
+        "library" => drive(&slots, repeats, |slot| boundary::slot_read(slot, black_box(&mut lent))),
+        "raw" => drive(&slots, repeats, |slot| black_box(&mut record).read_slot(slot)),
+        "safe" => drive(&slots, repeats, |slot| read_slot(slot)),
+        "empty" => drive(&slots, repeats, |slot| slot.len()),
+        _ => return None,
+    })
+}
+
+fn held(what: &str) -> Option<bool> {
+    ["empty", "held"].contains(&what).then_some(what == "held")
+}
+
+/// The tail of a slot by itself, through the boundary.
+pub fn tail(side: &str, what: &str, repeats: usize) -> Option<usize> {
+    let slots = slots(held(what)?);
+    let slots: Vec<&[u8]> = slots.iter().map(Vec::as_slice).collect();
+    Some(match side {
+        "library" => drive(&slots, repeats, boundary::slot_reserved_tail),
+        "empty" => drive(&slots, repeats, |slot| slot.len()),
+        _ => return None,
+    })
+}
+
+/// Making a slot of a size empty, again and again.
+pub fn make_empty(side: &str, size: usize, repeats: usize) -> Option<usize> {
+    let mut slot = vec![7; size];
+    let inputs = [(); inputs::COUNT];
+    Some(match side {
+        "library" => drive(&inputs, repeats, |()| boundary::make_empty(black_box(&mut slot))),
+        "safe" => drive(&inputs, repeats, |()| Slot::new(black_box(&mut slot)).make_empty()),
+        "empty" => drive(&inputs, repeats, |()| black_box(&mut slot).len()),
+        _ => return None,
+    })
+}
+
+/// A job of zeros, to be lent.
+fn no_job() -> Job {
+    Job {
+        staged: [0; 257],
+        sizes: [0; 3],
+    }
+}
+
+/// The library begins in one job, which is lent to every call; the raw record and the typed one give back a job.
 pub fn begin(side: &str, kind: Kind, repeats: usize) -> Option<usize> {
-    let (bodies, slot) = (bodies(kind), empty_slot(kind.size));
+    let (bodies, mut bytes) = (bodies(kind), empty_slot(kind.size));
     let records: Vec<Own> = bodies.iter().map(|body| own(body)).collect();
     let records: Vec<&Own> = records.iter().collect();
+    let mut job = no_job();
     Some(match side {
-        "library" => drive(&records, repeats, |own| begun(&slot, own)),
+        "library" => drive(&records, repeats, |own| {
+            boundary::begin(&bytes, &own.record, own.tail, black_box(&mut job))
+        }),
+        "raw" => {
+            let records: Vec<Own<RawRecord>> = bodies.iter().map(|body| raw(body)).collect();
+            let slot = Slot::new(&mut bytes);
+            drive(&records.iter().collect::<Vec<_>>(), repeats, |own| {
+                own.record.begin(&slot, own.tail)
+            })
+        }
+        "safe" => {
+            let records: Vec<Safe> = bodies.iter().map(|body| safe(body)).collect();
+            let slot = Slot::new(&mut bytes);
+            drive(&records.iter().collect::<Vec<_>>(), repeats, |record| {
+                s2xv2::Job::begin(&slot, record)
+            })
+        }
         "empty" => drive(&records, repeats, |own| own.tail.len()),
         _ => return None,
     })
@@ -49,35 +131,34 @@ pub fn begin(side: &str, kind: Kind, repeats: usize) -> Option<usize> {
 
 fn jobs(kind: Kind) -> Vec<Job> {
     let (bodies, slot) = (bodies(kind), empty_slot(kind.size));
-    let begun = bodies.iter().map(|body| begun(&slot, &own(body)));
-    begun
-        .take(JOBS)
-        .map(|begun| {
-            assert_eq!([begun.answer.number, begun.answer.first], [0, kind.size + 2]);
-            assert!(!kind.filled || begun.job.descriptor_size == kind.size);
-            begun.job
-        })
-        .collect()
+    let begun = |body: &Vec<u8>| {
+        let (own, mut job) = (own(body), no_job());
+        let answer = boundary::begin(&slot, &own.record, own.tail, &mut job);
+        assert_eq!((answer.number, usize::from(answer.first)), (0, kind.size + 2));
+        assert!(!kind.filled || job.sizes[1] == kind.size);
+        job
+    };
+    bodies.iter().take(JOBS).map(begun).collect()
 }
 
 /// Steps until the job is done, by value: the job goes to the call and comes back from it.
 #[inline(always)]
 fn by_value(job: &Job, slot: &mut [u8], allowance: usize) -> Stepped {
-    let (place, size) = (slot.as_mut_ptr(), slot.len());
-    let mut stepped = unsafe { s2xv2_step(*job, place, size, black_box(allowance)) };
+    let mut stepped = boundary::step(*job, slot, black_box(allowance));
     while stepped.told.done == 0 && stepped.told.number == 0 {
-        stepped = unsafe { s2xv2_step(stepped.job, place, size, black_box(allowance)) };
+        stepped = boundary::step(stepped.job, slot, black_box(allowance));
     }
     stepped
 }
 
 /// The same where the job stands, which is at its start again afterwards.
 #[inline(always)]
-fn in_place(job: *mut Job, slot: &mut [u8], allowance: usize) {
+fn in_place(job: &mut Job, slot: &mut [u8], allowance: usize) {
     loop {
-        let told = unsafe { s2xv2_step_in_place(job, slot.as_mut_ptr(), slot.len(), black_box(allowance)) };
+        let told = boundary::step_in_place(job, slot, black_box(allowance));
         if told.done != 0 || told.number != 0 {
-            return unsafe { (*job).stores_made = 0 };
+            job.sizes[2] = 0;
+            return;
         }
     }
 }
@@ -101,21 +182,54 @@ pub fn job(side: &str, kind: Kind, allowance: usize, repeats: usize) -> Option<u
     let jobs: Vec<*mut Job> = jobs.iter_mut().map(core::ptr::from_mut).collect();
     Some(match side {
         "value" => drive(&jobs, repeats, |job| by_value(unsafe { &*job }, &mut slot, allowance)),
-        "place" => drive(&jobs, repeats, |job| in_place(job, &mut slot, allowance)),
+        "place" => drive(&jobs, repeats, |job| in_place(unsafe { &mut *job }, &mut slot, allowance)),
         "empty" => drive(&jobs, repeats, |_| turns(kind.size, allowance)),
         _ => return None,
     })
 }
 
-/// That both ways to step leave the same slot, which holds the descriptor.
+/// That both ways to step leave the same slot, which holds the descriptor; that all sides read the same of a slot, and begin the same job.
 pub fn agree() -> bool {
     let kinds = [(21, false), (64, false), (64, true), (257, false), (257, true)];
-    kinds.into_iter().all(|(size, filled)| {
+    let stepped = kinds.into_iter().all(|(size, filled)| {
         jobs(Kind { size, filled }).iter_mut().all(|job| {
             let (mut a, mut b) = (empty_slot(size), empty_slot(size));
             by_value(job, &mut a, 8);
             in_place(job, &mut b, 1);
-            a == b && a[0] == 0x7F && a[2..job.descriptor_size] == job.staged[2..job.descriptor_size]
+            a == b && a[0] == 0x7F && a[2..job.sizes[1]] == job.staged[2..job.sizes[1]]
         })
+    });
+    stepped
+        && [false, true]
+            .into_iter()
+            .all(|held| slots(held).iter().all(|slot| read_alike(slot, held)))
+        && begun_alike()
+}
+
+fn read_alike(slot: &[u8], held: bool) -> bool {
+    let (mut lent, mut record) = (zeros(), RawRecord::default());
+    let answer = boundary::slot_read(slot, &mut lent);
+    let part = boundary::slot_reserved_tail(slot);
+    let safe = read_slot(slot).expect("a slot in good form");
+    let tail = record.read_slot(slot).expect("a slot in good form");
+    let (place, length) = (usize::from(answer.first), usize::from(answer.second));
+    answer.number == 0
+        && (part.place, part.length) == (place, length)
+        && [tail.is_some(), safe.is_some(), place != 0] == [held; 3]
+        && tail.unwrap_or(&[]) == &slot[place..place + length]
+        && safe.map_or(RawRecord::default(), |safe| RawRecord::try_from(&safe).expect("two ids")) == record
+        && (held || lent == zeros())
+}
+
+fn begun_alike() -> bool {
+    let kind = Kind { size: 64, filled: false };
+    bodies(kind).iter().zip(jobs(kind)).all(|(body, job)| {
+        let mut bytes = empty_slot(kind.size);
+        let mut slot = Slot::new(&mut bytes);
+        let (raw, safe) = (raw(body), safe(body));
+        let mut begun = s2xv2::Job::begin(&slot, &safe).expect("room");
+        let alike = raw.record.begin(&slot, raw.tail).as_ref() == Ok(&begun) && begun.descriptor_size() == job.sizes[1];
+        let done = begun.advance(&mut slot, usize::MAX).is_ok_and(|told| told.done);
+        alike && done && bytes[2..job.sizes[1]] == job.staged[2..job.sizes[1]]
     })
 }

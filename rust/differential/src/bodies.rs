@@ -1,4 +1,5 @@
-//! Bodies are read and written back; records are measured, written into buffers of several sizes, and read back.
+//! Bodies are read and written back; records are measured, written into buffers of several sizes, and read back. Each call is made with the
+//! typed record, and with the raw one beside it.
 use crate::numbers::from_values;
 use crate::ours::{length, padded, reading, Reading};
 use crate::tally::Tally;
@@ -8,6 +9,7 @@ use oracle::generator::{self as generator, Body, Written};
 use oracle::sets::BEFORE;
 use oracle::values::{Values, NAMES, POLARIZATION};
 use oracle::{crate_side, named as names};
+use s2xv2::RawRecord;
 use std::sync::LazyLock;
 
 static TAIL: LazyLock<Vec<u8>> = LazyLock::new(generator::tail);
@@ -57,6 +59,13 @@ fn compare_reading<'a>(body: &'a [u8], tally: &mut Tally) -> Result<Option<Recor
     };
     tally.count(&ours.told);
     tally.same(&ours, &theirs, || format!("parse of {} bytes {}", body.len(), hex(body)))?;
+    let typed = match &record {
+        Ok(record) => RawRecord::try_from(record).map(|raw| (raw, record.reserved_tail)),
+        Err(refusal) => Err(*refusal),
+    };
+    tally.beside(&RawRecord::parse(body), &typed, || {
+        format!("raw parse of {} bytes {}", body.len(), hex(body))
+    })?;
     Ok(record.ok())
 }
 
@@ -84,6 +93,8 @@ fn compare_writing(record: &Record<'_>, values: &Values, spare: usize, tally: &m
     tally.same(&ours, &padded(&measured.numbers()), || {
         format!("serialized_len of {}", shown(values, tail))
     })?;
+    let raw = RawRecord::try_from(record).and_then(|raw| raw.serialized_len(tail));
+    tally.beside(&length(raw), &ours, || format!("raw serialized_len of {}", shown(values, tail)))?;
     let size = if let Answer::Accepted(size) = measured { size } else { 64 };
     for room in [0, size - 1, size, size + 1 + spare] {
         compare_write(record, values, room, tally)?;
@@ -100,6 +111,11 @@ fn compare_write(record: &Record<'_>, values: &Values, room: usize, tally: &mut 
     tally.count(&told);
     tally.same(&(told, &ours), &(padded(&answer.numbers()), &theirs), || {
         format!("serialize_into {room} bytes of {}", shown(values, tail))
+    })?;
+    let mut buffer = vec![BEFORE; room];
+    let raw = RawRecord::try_from(record).and_then(|raw| raw.serialize_into(tail, &mut buffer));
+    tally.beside(&(raw, &buffer), &(written, &ours), || {
+        format!("raw serialize_into {room} bytes of {}", shown(values, tail))
     })?;
     match written {
         Ok(size) if size == room => compare_reading(&ours, tally).map(|_| ()),

@@ -4,7 +4,7 @@
 //!                               and the names of all codes
 //!
 //! A comparison is of all that one call says and leaves: the answer with what it tells, each field, the tail, each byte of the buffer or
-//! slot. The first difference ends the run.
+//! slot. Each call on a record is made with the raw record as well, and compared with the typed one. The first difference ends the run.
 mod bodies;
 mod ours;
 mod slots;
@@ -65,6 +65,7 @@ fn main() -> ExitCode {
     println!("answers by number: {}", tally.answers());
     match outcome {
         Ok(()) => {
+            println!("raw records beside the typed ones: {} comparisons", tally.beside);
             println!("{} comparisons, no difference", tally.comparisons);
             ExitCode::SUCCESS
         }

@@ -6,7 +6,7 @@ use oracle::generator::{self, next, seed};
 use oracle::sets::BEFORE;
 use oracle::values::{Values, COUNT, POLARIZATION};
 use oracle::{crate_side, jobs};
-use s2xv2::{read_slot, Job, Slot};
+use s2xv2::{read_slot, Job, RawRecord, Slot};
 
 /// Numbers by draws.
 struct Draws(u32);
@@ -114,7 +114,16 @@ fn compare_slot(slot: &[u8], theirs: &[u8], tally: &mut Tally) -> Result<(), Str
     tally.same(&slot, &theirs, || "bytes of a slot".to_string())?;
     let ours = our_reading(slot);
     tally.count(&ours.told);
-    tally.same(&ours, &model_reading(slot), || format!("reading of the slot {slot:?}"))
+    tally.same(&ours, &model_reading(slot), || format!("reading of the slot {slot:?}"))?;
+    let mut raw = RawRecord::default();
+    let tail = raw.read_slot(slot);
+    let held = read_slot(slot);
+    let typed = held.as_ref().map_or(None, Option::as_ref).map(RawRecord::try_from);
+    tally.beside(&Ok(raw), &typed.unwrap_or(Ok(RawRecord::default())), || {
+        format!("raw reading of the slot {slot:?}")
+    })?;
+    let typed = held.map(|held| held.map(|record| record.reserved_tail));
+    tally.beside(&tail, &typed, || format!("raw tail of the slot {slot:?}"))
 }
 
 fn allowance(d: &mut Draws) -> usize {
@@ -144,7 +153,10 @@ fn compare_other_size(d: &mut Draws, job: &mut Job, tally: &mut Tally) -> Result
 fn compare_job(case: u32, d: &mut Draws, slot: &mut [u8], tally: &mut Tally) -> Result<(), String> {
     let mut theirs = slot.to_vec();
     let (values, tail) = record(case, d, slot.len());
-    let begun = Job::begin(&Slot::new(slot), &from_values(&values, &tail));
+    let record = from_values(&values, &tail);
+    let begun = Job::begin(&Slot::new(slot), &record);
+    let raw = RawRecord::try_from(&record).and_then(|raw| raw.begin(&Slot::new(slot), &tail));
+    tally.beside(&raw, &begun, || format!("raw begin of case {case} on the slot {slot:?}"))?;
     let (answer, mut model) = jobs::begin(&theirs, &values, &tail);
     let ours = told(&begun, |job| [job.stores_left(), 0]);
     tally.count(&ours);

@@ -6,6 +6,8 @@ use std::fmt::Debug;
 #[derive(Default)]
 pub struct Tally {
     pub comparisons: u64,
+    /// Those of the raw record with the typed one, which are not among the others.
+    pub beside: u64,
     counts: BTreeMap<u32, u64>,
 }
 
@@ -17,6 +19,15 @@ impl Tally {
             return Ok(());
         }
         Err(format!("{}\n  the library: {ours:?}\n  the other:   {theirs:?}", about()))
+    }
+
+    /// One comparison of the raw record with the typed one.
+    pub fn beside<T: PartialEq + Debug>(&mut self, raw: &T, typed: &T, about: impl Fn() -> String) -> Result<(), String> {
+        self.beside += 1;
+        if raw == typed {
+            return Ok(());
+        }
+        Err(format!("{}\n  the raw record:   {raw:?}\n  the typed record: {typed:?}", about()))
     }
 
     /// Counts an answer by its number.

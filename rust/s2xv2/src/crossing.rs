@@ -1,53 +1,47 @@
 //! Records and answers across the boundary. Whatever numbers come back, they have a meaning or are refused, and nothing here can panic. A
-//! flag is clear at 0 and else set, and a code is taken as its type takes any number. Refused as [`Refusal::BadArchive`], and never taken for
-//! another, is a number that the library's contracts do not allow where it would be a place or a count: the number of an answer, what a
-//! refusal tells, more ids than there is room for, a tail beyond the bytes that were lent. A record that the caller made is refused here for
-//! one thing alone, as [`Refusal::TooManyIds`].
+//! flag is clear at 0 and else set, and a code is taken as its type takes any number, as the library takes what crosses to it. Refused as
+//! [`Refusal::BadArchive`], and never taken for another, is a number that the library's contracts do not allow where it would be a place or
+//! a count: the number of an answer, what a refusal tells, more ids than there is room for, a tail beyond the bytes that were lent. A record
+//! that the caller made is refused here for one thing alone, as [`Refusal::TooManyIds`].
 use crate::{ffi, Polarization, Refusal, RollOff, S2Xv2Mode, S2Xv2SatelliteDeliverySystem, S2Xv2Superframe};
 use alloc::{vec, vec::Vec};
 
-/// How many ids a record has. Refuses more than the count, which is one byte, can say.
+/// How many ids there are. Refuses more than the count, which is one byte, can say.
 #[inline]
-pub(crate) fn id_count(r: &S2Xv2SatelliteDeliverySystem<'_>) -> Result<u8, Refusal> {
-    let count = r.secondary_delivery_system_ids.len();
+pub(crate) fn id_count(ids: &[u32]) -> Result<u8, Refusal> {
+    let count = ids.len();
     u8::try_from(count).map_err(|_| Refusal::TooManyIds { count })
 }
 
-/// A record on its way in, with the number of its ids. What is absent is 0.
+/// A record on its way in, to the place of zeros from which it crosses. What is absent stays 0. It is stored there field by field: a record
+/// that is given back would be taken apart by the compiler, and moved twice.
 #[inline(always)]
-pub(crate) fn record_in(r: &S2Xv2SatelliteDeliverySystem<'_>, num_channel_bonds: u8) -> ffi::Record {
-    let mut c = ffi::Record {
-        delivery_system_id: r.delivery_system_id,
-        satellite_id: r.satellite_id,
-        frequency: r.frequency,
-        symbol_rate: r.symbol_rate,
-        scrambling_sequence_index: 0,
-        secondary_delivery_system_ids: [0; 2],
-        superframe: ffi::Superframe::default(),
-        mode_is_reserved: matches!(r.s2xv2_mode, S2Xv2Mode::Reserved(_)).into(),
-        s2xv2_mode: r.s2xv2_mode.to_u8(),
-        multiple_input_stream_flag: r.multiple_input_stream_flag.into(),
-        roll_off: r.roll_off.to_u8(),
-        reserved_zero_future_use_2: r.reserved_zero_future_use_2,
-        ncr_reference: r.ncr_reference.into(),
-        ncr_version: r.ncr_version.into(),
-        channel_bond: r.channel_bond,
-        polarization: r.polarization.to_u8(),
-        has_scrambling_sequence_selector: 0,
-        scrambling_sequence_selector: 0,
-        reserved_zero_future_use_1: r.reserved_zero_future_use_1,
-        ts_gs_s2x_mode: r.ts_gs_s2x_mode,
-        receiver_profiles: r.receiver_profiles,
-        has_input_stream_identifier: 0,
-        input_stream_identifier: 0,
-        reserved_zero_future_use_6: r.reserved_zero_future_use_6,
-        has_scrambling_sequence_index: 0,
-        has_timeslice_number: 0,
-        timeslice_number: 0,
-        reserved_zero_future_use_7: r.reserved_zero_future_use_7,
-        num_channel_bonds,
-        has_superframe: 0,
-    };
+pub(crate) fn record_in(r: &S2Xv2SatelliteDeliverySystem<'_>, c: &mut ffi::Record) -> Result<(), Refusal> {
+    let ids = r.secondary_delivery_system_ids.as_slice();
+    c.num_channel_bonds = id_count(ids)?;
+    if let [first, rest @ ..] = ids {
+        c.secondary_delivery_system_ids[0] = *first;
+        if let [second, ..] = rest {
+            c.secondary_delivery_system_ids[1] = *second;
+        }
+    }
+    c.delivery_system_id = r.delivery_system_id;
+    c.satellite_id = r.satellite_id;
+    c.symbol_rate = r.symbol_rate;
+    c.frequency = r.frequency;
+    c.multiple_input_stream_flag = r.multiple_input_stream_flag.into();
+    c.reserved_zero_future_use_2 = r.reserved_zero_future_use_2;
+    c.ncr_reference = r.ncr_reference.into();
+    c.ncr_version = r.ncr_version.into();
+    c.channel_bond = r.channel_bond;
+    c.ts_gs_s2x_mode = r.ts_gs_s2x_mode;
+    c.receiver_profiles = r.receiver_profiles;
+    c.reserved_zero_future_use_1 = r.reserved_zero_future_use_1;
+    c.polarization = r.polarization.to_u8();
+    c.roll_off = r.roll_off.to_u8();
+    c.reserved_zero_future_use_7 = r.reserved_zero_future_use_7;
+    c.reserved_zero_future_use_6 = r.reserved_zero_future_use_6;
+    c.set_mode(r.s2xv2_mode);
     if let Some(selector) = r.scrambling_sequence_selector {
         c.has_scrambling_sequence_selector = 1;
         c.scrambling_sequence_selector = selector.into();
@@ -64,32 +58,37 @@ pub(crate) fn record_in(r: &S2Xv2SatelliteDeliverySystem<'_>, num_channel_bonds:
         c.has_timeslice_number = 1;
         c.timeslice_number = number;
     }
-    if let [first, rest @ ..] = r.secondary_delivery_system_ids.as_slice() {
-        c.secondary_delivery_system_ids = [*first, rest.first().copied().unwrap_or(0)];
-    }
     if let Some(superframe) = &r.superframe {
-        c.has_superframe = 1;
-        c.superframe = superframe_in(superframe);
+        c.set_superframe(superframe);
     }
-    c
+    Ok(())
 }
 
-#[inline]
-fn superframe_in(s: &S2Xv2Superframe) -> ffi::Superframe {
-    ffi::Superframe {
-        reference_scrambling_index: s.reference_scrambling_index,
-        payload_scrambling_index: s.payload_scrambling_index,
-        beamhopping_time_plan_id: s.beamhopping_time_plan_id.unwrap_or(0),
-        sosf_wh_sequence_number: s.sosf_wh_sequence_number,
-        sffi_selector: s.sffi_selector.into(),
-        beam_hopping_time_plan_selector: s.beam_hopping_time_plan_selector.into(),
-        reserved_zero_future_use_2: s.reserved_zero_future_use_2,
-        has_sffi: s.sffi.is_some().into(),
-        sffi: s.sffi.unwrap_or(0),
-        reserved_zero_future_use_4: s.reserved_zero_future_use_4,
-        has_beamhopping_time_plan_id: s.beamhopping_time_plan_id.is_some().into(),
-        superframe_pilots_wh_sequence_number: s.superframe_pilots_wh_sequence_number,
-        postamble_pli: s.postamble_pli,
+impl ffi::Record {
+    /// The mode: its code, and whether it is `Reserved`.
+    #[inline]
+    pub(crate) fn set_mode(&mut self, mode: S2Xv2Mode) {
+        self.mode_is_reserved = matches!(mode, S2Xv2Mode::Reserved(_)).into();
+        self.s2xv2_mode = mode.to_u8();
+    }
+
+    /// The superframe block, which is there.
+    #[inline]
+    pub(crate) fn set_superframe(&mut self, s: &S2Xv2Superframe) {
+        self.has_superframe = 1;
+        self.reference_scrambling_index = s.reference_scrambling_index;
+        self.payload_scrambling_index = s.payload_scrambling_index;
+        self.beamhopping_time_plan_id = s.beamhopping_time_plan_id.unwrap_or(0);
+        self.sffi_selector = s.sffi_selector.into();
+        self.beam_hopping_time_plan_selector = s.beam_hopping_time_plan_selector.into();
+        self.has_sffi = s.sffi.is_some().into();
+        self.has_beamhopping_time_plan_id = s.beamhopping_time_plan_id.is_some().into();
+        self.sosf_wh_sequence_number = s.sosf_wh_sequence_number;
+        self.superframe_reserved_zero_future_use_2 = s.reserved_zero_future_use_2;
+        self.sffi = s.sffi.unwrap_or(0);
+        self.reserved_zero_future_use_4 = s.reserved_zero_future_use_4;
+        self.superframe_pilots_wh_sequence_number = s.superframe_pilots_wh_sequence_number;
+        self.postamble_pli = s.postamble_pli;
     }
 }
 
@@ -97,11 +96,7 @@ fn superframe_in(s: &S2Xv2Superframe) -> ffi::Superframe {
 /// was read. The two parts that few records have come first, so that all else is moved once, from where it came to where it stays.
 #[inline(always)]
 pub(crate) fn record_out<'a>(c: &ffi::Record, reserved_tail: &'a [u8]) -> Result<S2Xv2SatelliteDeliverySystem<'a>, Refusal> {
-    let superframe = if flag(c.has_superframe) {
-        Some(superframe_out(&c.superframe))
-    } else {
-        None
-    };
+    let superframe = if flag(c.has_superframe) { Some(superframe_out(c)) } else { None };
     let secondary_delivery_system_ids = ids_out(c)?;
     Ok(S2Xv2SatelliteDeliverySystem {
         delivery_system_id: c.delivery_system_id,
@@ -133,12 +128,12 @@ pub(crate) fn record_out<'a>(c: &ffi::Record, reserved_tail: &'a [u8]) -> Result
 
 /// Apart, as most records have none.
 #[inline(never)]
-fn superframe_out(c: &ffi::Superframe) -> S2Xv2Superframe {
+pub(crate) fn superframe_out(c: &ffi::Record) -> S2Xv2Superframe {
     S2Xv2Superframe {
         sosf_wh_sequence_number: c.sosf_wh_sequence_number,
         sffi_selector: flag(c.sffi_selector),
         beam_hopping_time_plan_selector: flag(c.beam_hopping_time_plan_selector),
-        reserved_zero_future_use_2: c.reserved_zero_future_use_2,
+        reserved_zero_future_use_2: c.superframe_reserved_zero_future_use_2,
         reference_scrambling_index: c.reference_scrambling_index,
         sffi: there(c.has_sffi, c.sffi),
         reserved_zero_future_use_4: c.reserved_zero_future_use_4,
@@ -168,36 +163,39 @@ pub(crate) fn flag(byte: u8) -> bool {
 
 /// A value, if its flag says that it is there.
 #[inline]
-fn there<T>(has: u8, value: T) -> Option<T> {
+pub(crate) fn there<T>(has: u8, value: T) -> Option<T> {
     flag(has).then_some(value)
 }
 
 /// What an answer tells, where it accepts.
 #[inline]
-pub(crate) fn accepted(answer: &ffi::Answer) -> Result<(usize, usize), Refusal> {
+pub(crate) fn accepted(answer: ffi::Answer) -> Result<(usize, usize), Refusal> {
     match answer.number {
-        0 => Ok((answer.first, answer.second)),
+        0 => Ok((answer.first.into(), answer.second.into())),
         _ => Err(refusal(answer)),
     }
 }
 
-/// Why an answer refuses. A number that the contracts do not allow is [`Refusal::BadArchive`], and never taken for another. So is 100,
-/// which they allow for a flag above 1, and for a code of 6 or more whose mode is not reserved: no record that crosses from here has either.
+/// Why an answer refuses. A number that the contracts do not allow is [`Refusal::BadArchive`], and never taken for another. The fourth number
+/// that an answer may tell is not looked at: it is 0 in every answer of today's.
 #[cold]
-fn refusal(answer: &ffi::Answer) -> Refusal {
+fn refusal(answer: ffi::Answer) -> Refusal {
     let place = |last: u8| u8::try_from(answer.first).ok().filter(|place| (1..=last).contains(place));
-    let (need, have) = (answer.second, answer.third);
     let refusal = match answer.number {
-        1 => place(9).map(|place| Refusal::Short { place, need, have }),
-        2 => u16::try_from(answer.first).ok().map(|length| Refusal::Long { length }),
+        1 => place(9).map(|place| Refusal::Short {
+            place,
+            need: answer.second.into(),
+            have: answer.third.into(),
+        }),
+        2 => Some(Refusal::Long { length: answer.first }),
         3 => place(9).map(|place| Refusal::Inconsistent { place }),
         4 => place(22).map(|place| Refusal::Field { place }),
         5 => Some(Refusal::Room {
-            need: answer.first,
-            have: answer.second,
+            need: answer.first.into(),
+            have: answer.second.into(),
         }),
         6 => Some(Refusal::Slot),
-        7 => Some(Refusal::NoFit { size: answer.first }),
+        7 => Some(Refusal::NoFit { size: answer.first.into() }),
         8 => Some(Refusal::OtherSize),
         _ => None,
     };
@@ -208,18 +206,19 @@ fn refusal(answer: &ffi::Answer) -> Refusal {
 mod tests {
     use super::*;
 
-    fn answer(number: usize, first: usize) -> ffi::Answer {
+    fn answer(number: u16, first: u16) -> ffi::Answer {
         ffi::Answer {
             number,
             first,
             second: 5,
             third: 6,
+            fourth: 7,
         }
     }
 
     #[test]
     fn each_number_has_its_refusal() {
-        assert_eq!(accepted(&answer(0, 4)), Ok((4, 5)));
+        assert_eq!(accepted(answer(0, 4)), Ok((4, 5)));
         for (number, refusal) in [
             (
                 1,
@@ -237,18 +236,18 @@ mod tests {
             (7, Refusal::NoFit { size: 4 }),
             (8, Refusal::OtherSize),
         ] {
-            assert_eq!(accepted(&answer(number, 4)), Err(refusal));
-            assert_eq!(usize::from(refusal.number()), number);
+            assert_eq!(accepted(answer(number, 4)), Err(refusal));
+            assert_eq!(u16::from(refusal.number()), number);
         }
     }
 
     #[test]
     fn numbers_that_no_contract_allows() {
-        for number in [9, 99, 100, 101, 256 + 1, usize::MAX] {
-            assert_eq!(accepted(&answer(number, 4)), Err(Refusal::BadArchive));
+        for number in [9, 99, 100, 101, 256 + 1, u16::MAX] {
+            assert_eq!(accepted(answer(number, 4)), Err(Refusal::BadArchive));
         }
-        for (number, first) in [(1, 0), (1, 10), (2, 65_536), (3, 0), (3, 10), (4, 23), (4, 256 + 4)] {
-            assert_eq!(accepted(&answer(number, first)), Err(Refusal::BadArchive));
+        for (number, first) in [(1, 0), (1, 10), (1, 256 + 1), (3, 0), (3, 10), (4, 0), (4, 23), (4, 256 + 4)] {
+            assert_eq!(accepted(answer(number, first)), Err(Refusal::BadArchive));
         }
     }
 
@@ -264,10 +263,10 @@ mod tests {
             |c| &mut c.has_scrambling_sequence_index,
             |c| &mut c.has_timeslice_number,
             |c| &mut c.has_superframe,
-            |c| &mut c.superframe.sffi_selector,
-            |c| &mut c.superframe.beam_hopping_time_plan_selector,
-            |c| &mut c.superframe.has_sffi,
-            |c| &mut c.superframe.has_beamhopping_time_plan_id,
+            |c| &mut c.sffi_selector,
+            |c| &mut c.beam_hopping_time_plan_selector,
+            |c| &mut c.has_sffi,
+            |c| &mut c.has_beamhopping_time_plan_id,
         ];
         for flag in flags {
             let mut c = ffi::Record {

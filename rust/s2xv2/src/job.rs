@@ -1,7 +1,8 @@
 //! The job that replaces the descriptor in a slot.
-use crate::crossing::{accepted, flag, id_count, record_in};
+use crate::crossing::{accepted, flag, record_in};
 use crate::{ffi, Refusal, S2Xv2SatelliteDeliverySystem, Slot};
 use core::fmt;
+use core::mem::MaybeUninit;
 
 /// A write of a record to a slot, a few stores at a time.
 ///
@@ -70,9 +71,18 @@ impl Job {
     /// [`Refusal::TooManyIds`], then [`Refusal::Slot`], [`Refusal::Inconsistent`], [`Refusal::Long`], [`Refusal::NoFit`],
     /// [`Refusal::Field`].
     pub fn begin(slot: &Slot<'_>, record: &S2Xv2SatelliteDeliverySystem<'_>) -> Result<Self, Refusal> {
-        let begun = ffi::begin(slot.bytes(), record_in(record, id_count(record)?), record.reserved_tail);
-        accepted(&begun.answer)?;
-        Ok(Self { inner: begun.job })
+        let mut crossing = ffi::Record::default();
+        record_in(record, &mut crossing)?;
+        Self::begin_raw(slot, &crossing, record.reserved_tail)
+    }
+
+    /// The same of a record as it crosses.
+    #[inline]
+    pub(crate) fn begin_raw(slot: &Slot<'_>, record: &ffi::Record, tail: &[u8]) -> Result<Self, Refusal> {
+        let mut place = MaybeUninit::uninit();
+        let (answer, job) = ffi::begin(slot.bytes(), record, tail, &mut place);
+        accepted(answer)?;
+        Ok(Self { inner: job.clone() })
     }
 
     /// Makes the smaller of the allowance and the stores left, and gives back the job. A refused step stores nothing, and gives the job

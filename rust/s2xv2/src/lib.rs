@@ -3,7 +3,7 @@
 //!
 //! The work is done by a proved library behind a C boundary. This crate gives it the types that a Rust program expects, needs no other
 //! crate, and does without `std`. Every call takes any bytes, record, slot or job; a bad one is answered by a [`Refusal`], and a refused
-//! call stores nothing in what it was lent.
+//! call stores nothing in a buffer or a slot that it was lent.
 //!
 //! ```
 //! use s2xv2::{Refusal, S2Xv2SatelliteDeliverySystem};
@@ -22,6 +22,9 @@
 //! # Ok::<(), Refusal>(())
 //! ```
 //!
+//! [`RawRecord`] is the record as the library has it, for those who count instructions: it is read where it stands, and no number of it is
+//! turned into another type until it is asked for.
+//!
 //! `docs/ANSWERS.md` of the repository has every refusal: its number, what it tells, and when it is given, with the two lists of what is
 //! refused of a record (list A: it contradicts itself; list B: a value is too wide for the wire).
 #![no_std]
@@ -36,6 +39,8 @@ mod crossing;
 mod ffi;
 mod job;
 mod mode;
+pub mod places;
+mod raw;
 mod record;
 mod refusal;
 mod slot;
@@ -44,10 +49,27 @@ mod superframe;
 pub use carrier::{Polarization, RollOff};
 pub use job::{Job, Progress};
 pub use mode::S2Xv2Mode;
+pub use raw::RawRecord;
 pub use record::S2Xv2SatelliteDeliverySystem;
 pub use refusal::Refusal;
 pub use slot::{read_slot, Slot};
 pub use superframe::S2Xv2Superframe;
+
+/// The version of this crate.
+pub const VERSION: &str = env!("CARGO_PKG_VERSION");
+
+/// The same as one number, major * 65536 + minor * 256 + patch, as `S2XV2_VERSION` of `include/s2xv2.h` has it.
+pub const VERSION_NUMBER: u32 = ffi::VERSION;
+
+/// The version of the archive that was linked, as such a number. The archive for this crate has [`VERSION_NUMBER`].
+///
+/// ```
+/// assert_eq!(s2xv2::linked_version(), s2xv2::VERSION_NUMBER);
+/// ```
+#[must_use]
+pub fn linked_version() -> u32 {
+    ffi::version()
+}
 
 /// What every reserved field of a new record holds.
 pub const S2XV2_RESERVED_ZERO_FUTURE_USE_DEFAULT: u8 = 0;

@@ -1,7 +1,8 @@
 //! The record of a body.
-use crate::crossing::{accepted, id_count, record_in, record_out};
+use crate::crossing::{accepted, record_in, record_out};
 use crate::{ffi, Polarization, Refusal, RollOff, S2Xv2Mode, S2Xv2Superframe};
 use alloc::vec::Vec;
+use core::mem::MaybeUninit;
 
 /// The record of a body (EN 300 468, tables 144a and 144b): its fields in wire order, and its tail.
 ///
@@ -132,10 +133,11 @@ impl<'a> S2Xv2SatelliteDeliverySystem<'a> {
     /// # Errors
     /// [`Refusal::Long`] above 4,096 bytes, and [`Refusal::Short`] for a body that ends inside a part.
     pub fn parse(body: &'a [u8]) -> Result<Self, Refusal> {
-        let parsed = ffi::parse(body);
-        let (place, _) = accepted(&parsed.answer)?;
-        let tail = body.get(place..).ok_or(Refusal::BadArchive)?;
-        record_out(&parsed.body, tail)
+        let mut place = MaybeUninit::uninit();
+        let (answer, record) = ffi::parse(body, &mut place);
+        let (start, _) = accepted(answer)?;
+        let tail = body.get(start..).ok_or(Refusal::BadArchive)?;
+        record_out(record, tail)
     }
 
     /// How many bytes the record takes with its tail. The values of its fields are not judged here.
@@ -154,7 +156,9 @@ impl<'a> S2Xv2SatelliteDeliverySystem<'a> {
     /// # Errors
     /// [`Refusal::TooManyIds`], then [`Refusal::Inconsistent`], then [`Refusal::Long`] above 4,096 bytes.
     pub fn serialized_len(&self) -> Result<usize, Refusal> {
-        let (length, _) = accepted(&ffi::serialized_len(record_in(self, id_count(self)?), self.reserved_tail))?;
+        let mut record = ffi::Record::default();
+        record_in(self, &mut record)?;
+        let (length, _) = accepted(ffi::serialized_len(&record, self.reserved_tail))?;
         Ok(length)
     }
 
@@ -180,7 +184,9 @@ impl<'a> S2Xv2SatelliteDeliverySystem<'a> {
     /// # Errors
     /// Those of [`serialized_len`](Self::serialized_len), then [`Refusal::Room`], then [`Refusal::Field`].
     pub fn serialize_into(&self, buffer: &mut [u8]) -> Result<usize, Refusal> {
-        let (length, _) = accepted(&ffi::serialize_into(record_in(self, id_count(self)?), self.reserved_tail, buffer))?;
+        let mut record = ffi::Record::default();
+        record_in(self, &mut record)?;
+        let (length, _) = accepted(ffi::serialize_into(&record, self.reserved_tail, buffer))?;
         Ok(length)
     }
 }

@@ -1,4 +1,5 @@
 //! Why a call was refused.
+use crate::places::{field, inconsistent, short};
 use core::fmt;
 
 /// Why a call was refused: the refusals of docs/ANSWERS.md by their names, and two of the boundary's own, [`Refusal::TooManyIds`] and
@@ -7,7 +8,7 @@ use core::fmt;
 /// It prints as a sentence that names the part or the field.
 ///
 /// ```
-/// use s2xv2::{Refusal, S2Xv2SatelliteDeliverySystem};
+/// use s2xv2::{places, Refusal, S2Xv2SatelliteDeliverySystem};
 ///
 /// let mut body = [0; 18];
 /// assert!(S2Xv2SatelliteDeliverySystem::parse(&body).is_ok());
@@ -15,6 +16,7 @@ use core::fmt;
 /// body[4] = 0x20;
 /// let refusal = S2Xv2SatelliteDeliverySystem::parse(&body).unwrap_err();
 /// assert_eq!(refusal, Refusal::Short { place: 4, need: 19, have: 18 });
+/// assert!(matches!(refusal, Refusal::Short { place: places::short::TIMESLICE_NUMBER, .. }));
 /// assert_eq!((refusal.number(), refusal.told()), (1, [4, 19, 18]));
 /// assert_eq!(
 ///     refusal.to_string(),
@@ -26,7 +28,7 @@ use core::fmt;
 pub enum Refusal {
     /// The body ends inside a part.
     Short {
-        /// Which part, from 1 to 9 in wire order.
+        /// Which part, from 1 to 9 in wire order: [`places::short`](short).
         place: u8,
         /// Where that part ends.
         need: usize,
@@ -40,12 +42,12 @@ pub enum Refusal {
     },
     /// A record that contradicts itself.
     Inconsistent {
-        /// The first place of list A that holds, from 1 to 9.
+        /// The first place of list A that holds, from 1 to 9: [`places::inconsistent`](inconsistent).
         place: u8,
     },
     /// A value that the wire cannot carry.
     Field {
-        /// The first place of list B that holds, from 1 to 22.
+        /// The first place of list B that holds, from 1 to 22: [`places::field`](field).
         place: u8,
     },
     /// An output buffer that is too small.
@@ -74,55 +76,6 @@ pub enum Refusal {
     BadArchive,
 }
 
-const PARTS: [&str; 9] = [
-    "the core",
-    "the input stream identifier",
-    "the scrambling sequence index",
-    "the timeslice number",
-    "the channel bond header",
-    "a secondary delivery system id",
-    "the superframe block",
-    "the beam hopping time plan id",
-    "the last byte of the superframe block",
-];
-
-const LIST_A: [&str; 9] = [
-    "s2xv2_mode is Reserved with a code that has a name of its own",
-    "input_stream_identifier and multiple_input_stream_flag disagree",
-    "scrambling_sequence_selector is missing in mode 1 or 2, or present in another",
-    "scrambling_sequence_index is present though scrambling_sequence_selector is not set",
-    "timeslice_number is missing in mode 2 or 5, or present in another",
-    "secondary_delivery_system_ids are present though channel_bond is not 1",
-    "superframe is missing in mode 4 or 5, or present in another",
-    "sffi is present though sffi_selector is clear",
-    "beamhopping_time_plan_id is present though beam_hopping_time_plan_selector is clear",
-];
-
-const LIST_B: [&str; 22] = [
-    "s2xv2_mode is above 15",
-    "roll_off is above 7",
-    "reserved_zero_future_use_2 is above 3",
-    "channel_bond is above 3",
-    "polarization is above 3",
-    "reserved_zero_future_use_1 is above 1",
-    "ts_gs_s2x_mode is above 3",
-    "receiver_profiles is above 31",
-    "satellite_id is above 16777215",
-    "scrambling_sequence_index is absent though scrambling_sequence_selector is set",
-    "scrambling_sequence_index is above 262143",
-    "reserved_zero_future_use_6 is above 63",
-    "secondary_delivery_system_ids are neither one nor two though channel_bond is 1",
-    "reserved_zero_future_use_7 is above 127",
-    "reference_scrambling_index is above 1048575",
-    "payload_scrambling_index is above 1048575",
-    "reserved_zero_future_use_2 of the superframe is above 3",
-    "sffi is absent though sffi_selector is set",
-    "sffi, or reserved_zero_future_use_4 in its place, is above 15",
-    "beamhopping_time_plan_id is absent though beam_hopping_time_plan_selector is set",
-    "superframe_pilots_wh_sequence_number is above 31",
-    "postamble_pli is above 7",
-];
-
 /// The words for a place, which counts from 1.
 fn words(list: &[&'static str], place: u8) -> &'static str {
     let at = usize::from(place).checked_sub(1);
@@ -139,8 +92,8 @@ fn are(count: usize) -> &'static str {
 }
 
 impl Refusal {
-    /// The number of the refusal, from 1 to 8. [`Refusal::TooManyIds`] has 100, as the C header has it for a record that
-    /// none of the library's could be. [`Refusal::BadArchive`] has 101, a number of this crate's own: no document has it, and no archive.
+    /// The number of the refusal, from 1 to 8. [`Refusal::TooManyIds`] has 100 and [`Refusal::BadArchive`] 101, numbers of this crate's own:
+    /// no archive answers them.
     #[must_use]
     pub const fn number(&self) -> u8 {
         match self {
@@ -176,7 +129,7 @@ impl fmt::Display for Refusal {
     fn fmt(&self, f: &mut fmt::Formatter<'_>) -> fmt::Result {
         match *self {
             Self::Short { place, need, have } => {
-                let part = words(&PARTS, place);
+                let part = words(short::WORDS, place);
                 write!(
                     f,
                     "the body ends inside {part}: {need} bytes are needed, {have} {} there",
@@ -185,8 +138,8 @@ impl fmt::Display for Refusal {
             }
             Self::Long { length: u16::MAX } => f.write_str("65535 bytes or more are too long: 4096 are the most"),
             Self::Long { length } => write!(f, "{length} bytes are too long: 4096 are the most"),
-            Self::Inconsistent { place } => write!(f, "the record contradicts itself: {}", words(&LIST_A, place)),
-            Self::Field { place } => write!(f, "the wire cannot carry the record: {}", words(&LIST_B, place)),
+            Self::Inconsistent { place } => write!(f, "the record contradicts itself: {}", words(inconsistent::WORDS, place)),
+            Self::Field { place } => write!(f, "the wire cannot carry the record: {}", words(field::WORDS, place)),
             Self::Room { need, have } => write!(f, "the buffer is too small: {need} bytes are needed, {have} {} there", are(have)),
             Self::Slot => f.write_str("the slot is not in good form, or its size is not from 21 to 257"),
             Self::NoFit { size } => write!(

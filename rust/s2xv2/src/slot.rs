@@ -1,6 +1,7 @@
 //! A slot of a loop.
 use crate::crossing::{accepted, record_out};
 use crate::{ffi, Refusal, S2Xv2SatelliteDeliverySystem};
+use core::mem::MaybeUninit;
 
 /// The record that the bytes of a slot hold, or `None` of an empty slot. For a copy of a slot, as a sender has it; [`Slot::read`] is the
 /// same for a slot itself.
@@ -19,13 +20,23 @@ use crate::{ffi, Refusal, S2Xv2SatelliteDeliverySystem};
 /// # Errors
 /// [`Refusal::Slot`] for a wrong size or form, and [`Refusal::Short`] for a body that ends inside a part.
 pub fn read_slot(bytes: &[u8]) -> Result<Option<S2Xv2SatelliteDeliverySystem<'_>>, Refusal> {
-    let read = ffi::slot_read(bytes);
-    let (place, length) = accepted(&read.answer)?;
-    if place == 0 {
+    let mut place = MaybeUninit::uninit();
+    let (answer, record) = ffi::slot_read(bytes, &mut place);
+    match tail_of(bytes, answer)? {
+        Some(tail) => record_out(record, tail).map(Some),
+        None => Ok(None),
+    }
+}
+
+/// The tail that an answer about a slot tells, or `None` of an empty slot.
+#[inline]
+pub(crate) fn tail_of(bytes: &[u8], answer: ffi::Answer) -> Result<Option<&[u8]>, Refusal> {
+    let (start, length) = accepted(answer)?;
+    if start == 0 {
         return Ok(None);
     }
-    let tail = bytes.get(place..).and_then(|rest| rest.get(..length)).ok_or(Refusal::BadArchive)?;
-    record_out(&read.body, tail).map(Some)
+    let tail = bytes.get(start..).and_then(|rest| rest.get(..length));
+    tail.map(Some).ok_or(Refusal::BadArchive)
 }
 
 /// The bytes of a loop in which one descriptor is kept: from 21 to 257 of them.
@@ -105,7 +116,7 @@ impl<'a> Slot<'a> {
     /// # Errors
     /// [`Refusal::Slot`] for a size below 21 or above 257; then nothing is stored.
     pub fn make_empty(&mut self) -> Result<(), Refusal> {
-        accepted(&ffi::slot_make_empty(self.bytes)).map(|_| ())
+        accepted(ffi::slot_make_empty(self.bytes)).map(|_| ())
     }
 
     /// The slot's bytes.

@@ -9,6 +9,14 @@ fn values() {
 }
 
 #[test]
+fn one_version() {
+    let parts: Vec<u32> = s2xv2::VERSION.split('.').map(|part| part.parse().unwrap()).collect();
+    let number = parts[0] * 65536 + parts[1] * 256 + parts[2];
+    assert_eq!((parts.len(), number), (3, s2xv2::VERSION_NUMBER));
+    assert_eq!(s2xv2::linked_version(), s2xv2::VERSION_NUMBER);
+}
+
+#[test]
 fn sizes_of_a_slot() {
     for n in 0..=2 * Slot::MAX_SIZE {
         let mut bytes = vec![7; n];

@@ -54,14 +54,17 @@ returns c =
     let start = c .before .before .before .before .before .before in
     let a = start .before .before .before .args in
     let l = length-accepted _ _ _ (sym (ap told (c .before .before .answer .given .1)) ∙ c .before .before .before .before .serialized-len .ensures) in
-    c .fit .ensures ∙ ap (λ (t : List ℕ). answered t (length (now (a .slot))) (a .r) (now (a .reserved-tail))) (told-fit (now (a .slot)) _ _ (sym (start .in-form .ensures) ∙ c .before .before .before .before .before .if1 .taken) (l .0) (l .1 .0))
+    let form = sym (start .in-form .ensures) ∙ c .before .before .before .before .before .if1 .taken in
+    c .fit .ensures
+    ∙ ap (λ (t : List ℕ). answered t (length (now (a .slot))) (a .r) (now (a .reserved-tail))) (told-fit (now (a .slot)) _ _ form (l .0) (l .1 .0))
 
 returns-2 : tie.Need-returns-2
 unfolding beginOf
 returns-2 c =
     let e = sym (ap told (c .before .before .answer2 .given .1)) ∙ c .before .before .before .before .serialized-len .ensures in
     let why = c .before .before .answer2 .given .0 .0 in
-    c .refused .ensures ∙ refuses _ _ _ why _ (told-length _ _ _ (sym (c .before .before .before .before .before .before .in-form .ensures) ∙ c .before .before .before .before .before .if1 .taken) why e)
+    let start = c .before .before .before .before .before in
+    c .refused .ensures ∙ refuses _ _ _ why _ (told-length _ _ _ (sym (start .before .in-form .ensures) ∙ start .if1 .taken) why e)
 
 returns-3 : tie.Need-returns-3
 unfolding beginOf

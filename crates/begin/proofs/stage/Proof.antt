@@ -38,8 +38,8 @@ serialize-into-requires c κs = search needs
 enum-told : tie.Need-enum-told
 enum-told c = search needs
 
-accepted-requires : tie.Need-accepted-requires
-accepted-requires c κs = search needs
+job-of-requires : tie.Need-job-of-requires
+job-of-requires c κs = search needs
 
 enum-known-answer : tie.Need-enum-known-answer
 enum-known-answer c = search needs
@@ -51,7 +51,7 @@ returns : tie.Need-returns
 returns c =
     let p = c .before .before .before .before .before .before .before .pre in
     let w = c .before .before .before .before .serialize-into .ensures in
-    c .accepted .ensures ∙ staged-accepted (p .0) (p .1) _ _ (sym (ap told (c .before .enum-told .given .1)) ∙ w .0) (w .1)
+    c .job-of .ensures ∙ staged-accepted (p .0) (p .1) _ _ (sym (ap told (c .before .enum-told .given .1)) ∙ w .0) (w .1)
 
 returns-2 : tie.Need-returns-2
 returns-2 c =
@@ -75,7 +75,7 @@ stage-spec =
     part-staged-end
     serialize-into-requires
     enum-told
-    accepted-requires
+    job-of-requires
     enum-known-answer
     refused-requires
     returns

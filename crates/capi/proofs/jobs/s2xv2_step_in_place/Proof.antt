@@ -1,5 +1,9 @@
--- `capi::jobs::s2xv2_step_in_place` meets its contract, by a walk of its code: the borrow of the job is opened, and its three numbers read; the staged bytes are taken out of the job's cell (`record-field-out`) and lent for a lifetime that is made for the call (`lends-shr`); the slot's borrow goes along at its own lifetime. After the call the lifetime is ended, the bytes come back (`lent-back`, `record-field-back`), the number made is stored in the cell, and the borrow closed at the new job. A struct's array field stands in memory at `map` of the identity over the list: `bytes-out` and `bytes-back` turn it by `map-id`.
+-- `capi::jobs::s2xv2_step_in_place` meets its contract, by a walk of its code.
 -- Assumes nothing.
+-- The borrow of the job is opened, and its three numbers read; the staged bytes are taken out of the job's cell (`record-field-out`) and lent for a
+-- lifetime that is made for the call (`lends-shr`); the slot's borrow goes along at its own lifetime. After the call the lifetime is ended, the bytes
+-- come back (`lent-back`, `record-field-back`), the number made is stored in the cell, and the borrow closed at the new job. A struct's array field
+-- stands in memory at `map` of the identity over the list: `bytes-out` and `bytes-back` turn it by `map-id`.
 use mathlib.Core.Path.{_≡_, refl, ap, subst, _∙_}
 use Prim.Native.Nat.{ℕ, _<_, _^_, _+_}
 use mathlib.Core.List.{[], _∷_, List, map-id}
@@ -48,19 +52,19 @@ use denote.Triple.Walked.{says, Stays, stay-ref, gave-slice, stay-none, walkOf, 
 use denote.Exit.{yes}
 use denote.Signature.{plain}
 use Rattle.job.specs.declared.job.Job.{Job}
-use Rattle.capi.specs.declared.jobs.FlatMoved.{FlatMoved}
+use Rattle.capi.specs.declared.jobs.PlainMoved.{PlainMoved}
 use Rattle.job.specs.Job.{withMade}
 use Rattle.job.specs.Step.{stepOf, slotAfter}
-use Rattle.capi.specs.declared.jobs.FlatAdvanced.{FlatAdvanced}
+use Rattle.capi.specs.declared.jobs.PlainAdvanced.{PlainAdvanced}
 use Rattle.capi.specs.Job.{movedOut}
 use Rattle.capi.proofs.Step.{step-keeps}
-use Rattle.capi.proofs.jobs.FlatAdvanced as Ad
-use Rattle.capi.proofs.jobs.FlatAdvanced.Laws as Ad′
+use Rattle.capi.proofs.jobs.PlainAdvanced as Ad
+use Rattle.capi.proofs.jobs.PlainAdvanced.Laws as Ad′
 use Rattle.job.proofs.Lent.{Lent, slotRef, slotVal, lentArgs, lentVals}
 use Rattle.job.proofs.job.Job as T
 use Rattle.job.proofs.job.Job.Laws as T′
-use Rattle.capi.proofs.jobs.FlatMoved as S
-use Rattle.capi.proofs.jobs.FlatMoved.Laws as S′
+use Rattle.capi.proofs.jobs.PlainMoved as S
+use Rattle.capi.proofs.jobs.PlainMoved.Laws as S′
 use Rattle.capi.proofs.jobs.advanced as step′
 use Rattle.capi.proofs.jobs.advanced.Symbol as step-def
 use Rattle.capi.proofs.jobs.advanced.Symbol.{name as #capi·jobs·advanced}
@@ -141,13 +145,13 @@ module _ {M : Type 1} (𝓤 : URA M) (H : Heap 𝓤) (A : Atoms 𝓤) (W : Given
       owned ! usize (Is usize) (uint-makes 𝓤 H A W w64) (h .«slot_size») _ (refl, f .0) $ fjoin ! $ move ! (2 ∷ 0 ∷ []) $ fjoin ! $ move ! (1 ∷ 0 ∷ []) $ join ! $ frame ! $ done !
 
   -- the job with the number that the call told, and what is told on
-  abbrev h₁ : FlatMoved → Job
+  abbrev h₁ : PlainMoved → Job
   h₁ r = withMade h (r .made)
 
-  abbrev rest : FlatMoved → FlatAdvanced
+  abbrev rest : PlainMoved → PlainAdvanced
   rest r = record { stores = r .stores; number = r .number; done = r .done }
 
-  exits : (r : FlatMoved) (zs : List ℕ) → (r ≡ movedOut (stepOf h (length ys) n)) × (zs ≡ slotAfter h ys n) → length zs ≡ length ys → Is Ad.the-row (rest r) (Ad′.lowered (rest r) ∷ [])
+  exits : (r : PlainMoved) (zs : List ℕ) → (r ≡ movedOut (stepOf h (length ys) n)) × (zs ≡ slotAfter h ys n) → length zs ≡ length ys → Is Ad.the-row (rest r) (Ad′.lowered (rest r) ∷ [])
       → ent 𝓤 (⋆ 𝓤 H A (‵ (fobs γ (R .coded .code (h₁ r))) ∷ ‵ (fbor κ (Body (mem R) b o γ)) ∷ ‵ (flft κ q) ∷ (‵ (flft κ′ q′) ⊛ ‵ ftrue) ∷ ‵ (finally u8 γ′ zs) ∷ [])) (Post (Ad′.lowered (rest r)))
   exits r zs e l is =
       qed W (‵ (fobs γ (R .coded .code (h₁ r))) ∷ ‵ (fbor κ (Body (mem R) b o γ)) ∷ ‵ (flft κ q) ∷ (‵ (flft κ′ q′) ⊛ ‵ ftrue) ∷ ‵ (finally u8 γ′ zs) ∷ []) ∵
@@ -158,12 +162,12 @@ module _ {M : Type 1} (𝓤 : URA M) (H : Heap 𝓤) (A : Atoms 𝓤) (W : Given
       owned ! Ad.the-row (Is Ad.the-row) (LL.makes Ad.the-type Ad′.the-plain 𝓤 H A) (rest r) _ is $ move ! (1 ∷ 0 ∷ []) $ done !
 
   -- what whoever holds the answer knows of its parts: what is told, and the new job
-  advance-is : (r : FlatMoved) (w : Val) → Is S.the-row r (w ∷ []) → Is Ad.the-row (rest r) (Ad′.lowered (rest r) ∷ [])
+  advance-is : (r : PlainMoved) (w : Val) → Is S.the-row r (w ∷ []) → Is Ad.the-row (rest r) (Ad′.lowered (rest r) ∷ [])
   advance-is r w is =
       let t = LL.owes Ad.the-type Ad′.the-laws (rest r) (LL.owed S.the-type S′.the-laws r (w ∷ []) is .1) in
       subst (λ (vs : List Val). Is Ad.the-row (rest r) vs) (Ad′.lowers .val-is (rest r) _ t) t
 
-  new-job : Is R h (T′.lowered h ∷ []) → (r : FlatMoved) (w : Val) → Is S.the-row r (w ∷ []) → Is R (h₁ r) (T′.lowered (h₁ r) ∷ [])
+  new-job : Is R h (T′.lowered h ∷ []) → (r : PlainMoved) (w : Val) → Is S.the-row r (w ∷ []) → Is R (h₁ r) (T′.lowered (h₁ r) ∷ [])
   new-job g r w is =
       let t = LL.owed T.the-type T′.the-laws h _ g in
       let m = LL.owed S.the-type S′.the-laws r (w ∷ []) is in
@@ -196,7 +200,7 @@ module _ {M : Type 1} (𝓤 : URA M) (H : Heap 𝓤) (A : Atoms 𝓤) (W : Given
         move ! (8 ∷ []) $ fsplit ! $ move ! (4 ∷ 9 ∷ []) $ join ! $ move ! (0 ∷ 3 ∷ 1 ∷ []) $ use3 W (raw (Step 𝓤 H A at-mem run .pre (to-step ν δ))) (goes g ν δ) $
         -- [what the call asks; what allowance owns; the lender's part; the rest of the job; the open borrow; obs; auth; _10; …]
         calls-at ! fm (Step 𝓤 H A at-mem run) known (to-step ν δ) (and-then ! (load ! (from ! (stop !)) (look ! 11 refl)) (and-then ! (load ! (from ! (stop !)) (look ! 19 refl)) (and-then ! (load ! (from ! (stop !)) (look ! 17 refl)) (and-then ! (load ! (from ! (stop !)) (look ! 15 refl)) (and-then ! (load ! (from ! (stop !)) (look ! 7 refl)) (and-then ! (load ! (from ! (stop !)) (look ! 21 refl)) (no-more !))))))) (λ w.
-        use1 W (later (some (λ (r : FlatMoved). ((‵ (flft (ν ∷ []) fullShare) ⊛ ‵ (flft κ′ q′) ⊛ ‵ ftrue) ⊛ ‵ (S.the-row .own r (w ∷ []))) ⊛ raw (ensured 𝓤 H A step′.ended (step′.clauses 𝓤 H A at-mem run) (ν ∷ [], (κ′, tt)) (y δ, (h .«slot_size», (h .«descriptor_size», (h .«stores_made», ((slotRef lent), (n, tt)))))) tt r)))) (id⊢ 𝓤 _) $ await ! tt $ pick ! (λ r.
+        use1 W (later (some (λ (r : PlainMoved). ((‵ (flft (ν ∷ []) fullShare) ⊛ ‵ (flft κ′ q′) ⊛ ‵ ftrue) ⊛ ‵ (S.the-row .own r (w ∷ []))) ⊛ raw (ensured 𝓤 H A step′.ended (step′.clauses 𝓤 H A at-mem run) (ν ∷ [], (κ′, tt)) (y δ, (h .«slot_size», (h .«descriptor_size», (h .«stores_made», ((slotRef lent), (n, tt)))))) tt r)))) (id⊢ 𝓤 _) $ await ! tt $ pick ! (λ r.
         -- what the call ensures, at some last list
         split ! $ move ! (1 ∷ []) $ use1 W (some (λ (zs : Unit {0} × (Unit {0} × (Unit {0} × (Unit {0} × (List ℕ × (Unit {0} × Unit {0})))))). ‵ (lasts step′.ended (ν ∷ [], (κ′, tt)) (y δ, (h .«slot_size», (h .«descriptor_size», (h .«stores_made», ((slotRef lent), (n, tt)))))) zs) ⊛ (raw (fact 𝓤 (r ≡ movedOut (stepOf h (length ys) n))) ⊛ raw (fact 𝓤 (zs .1 .1 .1 .1 .0 ≡ slotAfter h ys n))))) (id⊢ 𝓤 _) $ pick ! (λ zs.
         split ! $ move ! (1 ∷ []) $ split ! $ heard ! (r ≡ movedOut (stepOf h (length ys) n)) (λ t. heard ! (zs .1 .1 .1 .1 .0 ≡ slotAfter h ys n) (λ l′. fsplit ! $ drop ! $ fsplit ! $ drop ! $ fsplit ! $ drop ! $ fsplit ! $ drop ! $ fsplit ! $ fsplit ! $ move ! (1 ∷ []) $ feqL ! (λ l.

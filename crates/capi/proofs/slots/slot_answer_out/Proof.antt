@@ -1,4 +1,4 @@
--- `capi::slots::slot_answer_out` meets its contract: the arm says what is told.
+-- `capi::slots::slot_answer_out` meets its contract: the arm that was taken is the case of the definition.
 -- Assumes nothing.
 use borrow.Author.Needs.{needs}
 use Rattle.capi.proofs.slots.slot_answer_out.Statement.{statement}
@@ -7,14 +7,14 @@ use Rattle.capi.proofs.slots.slot_answer_out.Tie as tie
 enum-known-answer : tie.Need-enum-known-answer
 enum-known-answer c = search needs
 
-answer-of-requires : tie.Need-answer-of-requires
-answer-of-requires c κs = search needs
+accepted-requires : tie.Need-accepted-requires
+accepted-requires c κs = search needs
 
 enum-told : tie.Need-enum-told
 enum-told c = search needs
 
-answer-of-requires-2 : tie.Need-answer-of-requires-2
-answer-of-requires-2 c κs = search needs
+accepted-requires-2 : tie.Need-accepted-requires-2
+accepted-requires-2 c κs = search needs
 
 enum-known-answer-2 : tie.Need-enum-known-answer-2
 enum-known-answer-2 c = search needs
@@ -23,10 +23,10 @@ refusal-out-requires : tie.Need-refusal-out-requires
 refusal-out-requires c κs = search needs
 
 returns : tie.Need-returns
-returns c = simp (c .answer-of .ensures, c .before .before .answer .given .1)
+returns c = simp (c .accepted .ensures, c .before .before .answer .given .1)
 
 returns-2 : tie.Need-returns-2
-returns-2 c = simp (c .answer-of2 .ensures, c .before .enum-told .given .1)
+returns-2 c = simp (c .accepted2 .ensures, c .before .enum-told .given .1)
 
 returns-3 : tie.Need-returns-3
 returns-3 c = simp (c .refusal-out .ensures, c .before .before .answer2 .given .1)
@@ -36,9 +36,9 @@ slot-answer-out-spec =
     tie.close
     (tie.spec
     enum-known-answer
-    answer-of-requires
+    accepted-requires
     enum-told
-    answer-of-requires-2
+    accepted-requires-2
     enum-known-answer-2
     refusal-out-requires
     returns

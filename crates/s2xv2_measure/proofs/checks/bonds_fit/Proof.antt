@@ -1,10 +1,10 @@
--- `s2xv2_measure::checks::bonds_fit` meets its contract: the tests that hold bound the numbers.
+-- `s2xv2_measure::checks::bonds_fit` meets its contract: each test is one of the three.
 -- Assumes nothing.
 use mathlib.Core.Path.{refl, sym, _∙_}
-use lib.Dec.{ltb}
 use borrow.Author.Tests.{le-ltb, lt-leb, eq-eqb, ne-eqb, eqb-true}
 use Rattle.wire.proofs.Flags.{never, and-false}
-use Rattle.s2xv2_measure.proofs.Flags.{fits}
+use Rattle.s2xv2_measure.proofs.Checked.{fits}
+use lib.Dec.{ltb}
 use borrow.Author.Needs.{needs}
 use Rattle.s2xv2_measure.proofs.checks.bonds_fit.Statement.{statement}
 use Rattle.s2xv2_measure.proofs.checks.bonds_fit.Tie as tie
@@ -15,7 +15,8 @@ less-one-requires c κs = search needs
 returns : tie.Need-returns
 returns c =
     let a = c .before .before .before .args in
-    λ e. rw (eq-eqb _ _ (c .before .before .if1 .taken)) (and-false (ltb 0 (a .count)), (lt-leb 2 _ (rw (c .before .less-one .ensures) at (c .if2 .taken)), (fits 128 (a .reserved) e, tt)))
+    let few = lt-leb 2 _ (rw (c .before .less-one .ensures) at (c .if2 .taken)) in
+    λ e. rw (eq-eqb _ _ (c .before .before .if1 .taken)) (and-false (ltb 0 (a .count)), (few, (fits 128 (a .reserved) e, tt)))
 
 returns-2 : tie.Need-returns-2
 returns-2 c = λ e. never (sym (le-ltb _ _ (c .if2 .left)) ∙ e)

@@ -13,10 +13,10 @@ add-result : tie.Need-add-result
 add-result c = search needs
 
 returns : tie.Need-returns
-returns c = simp (eq-eqb _ _ (c .if1 .taken)) (omega arith, omega arith)
+returns c = rw (eq-eqb _ _ (c .if1 .taken)) (omega arith, omega arith)
 
 returns-2 : tie.Need-returns-2
-returns-2 c = simp (ne-eqb _ _ (c .if1 .left)) (omega arith, omega arith)
+returns-2 c = rw (ne-eqb _ _ (c .if1 .left)) (omega arith, omega arith)
 
 pub bond-len-spec : {M : Type 1} → statement M
 bond-len-spec = tie.close (tie.spec mul-result add-result returns returns-2)

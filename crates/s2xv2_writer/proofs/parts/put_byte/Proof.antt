@@ -13,7 +13,7 @@ use Rattle.s2xv2_writer.proofs.parts.put_byte.Tie as tie
 put-requires : tie.Need-put-requires
 unfolding byteParts
 put-requires c κs =
-    let h = rw (eq-eqb _ _ (c .before .if1 .taken)) at (c .before .before .before .pre) in
+    let h = rw (ne-eqb _ _ (c .before .if1 .taken)) at (c .before .before .before .pre) in
     omega arith
 
 add-result : tie.Need-add-result
@@ -24,11 +24,11 @@ same-length c = search needs
 
 returns : tie.Need-returns
 unfolding byteParts
-returns c = rw (eq-eqb _ _ (c .before .before .before .before .if1 .taken)) (refl, c .before .before .put .ensures)
+returns c = rw (ne-eqb _ _ (c .before .before .before .before .if1 .taken)) (refl, c .before .before .put .ensures)
 
 returns-2 : tie.Need-returns-2
 unfolding byteParts storedFrom
-returns-2 c = rw (ne-eqb _ _ (c .if1 .left)) (sym (add-zero _), refl)
+returns-2 c = rw (eq-eqb _ _ (c .if1 .left)) (sym (add-zero _), refl)
 
 pub put-byte-spec : {M : Type 1} → statement M
 put-byte-spec = tie.close (tie.spec put-requires add-result same-length returns returns-2)

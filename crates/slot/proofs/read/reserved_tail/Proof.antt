@@ -36,7 +36,8 @@ reserved-tail-requires c κs = search needs
 
 returns-2 : tie.Need-returns-2
 returns-2 c =
-    tail-body _ _ (sym (c .before .before .before .before .before .in-form .ensures) ∙ c .before .before .before .before .if1 .taken) (omega arith) (c .before .body-in .ensures) _ (c .reserved-tail .ensures)
+    let start = c .before .before .before .before in
+    c .reserved-tail .ensures ∙ tail-body _ _ (sym (start .before .in-form .ensures) ∙ start .if1 .taken) (omega arith) (c .before .body-in .ensures)
 
 sub-result-2 : tie.Need-sub-result-2
 sub-result-2 c = search needs

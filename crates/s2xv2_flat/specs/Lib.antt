@@ -1,2 +1,0 @@
-pub mod Core
-pub mod Output

@@ -1,0 +1,60 @@
+-- `s2xv2_plain::output::refusal_out` meets its contract: each number is told as the definition tells it, and there is no fourth.
+-- Assumes nothing.
+use Rattle.s2xv2_plain.proofs.Answers.{no-fourth}
+use borrow.Author.Needs.{needs}
+use Rattle.s2xv2_plain.proofs.output.refusal_out.Statement.{statement}
+use Rattle.s2xv2_plain.proofs.output.refusal_out.Tie as tie
+
+told-requires : tie.Need-told-requires
+told-requires c κs = search needs
+
+array-read-saturated : tie.Need-array-read-saturated
+array-read-saturated c = search needs
+
+saturated-requires : tie.Need-saturated-requires
+saturated-requires c κs = search needs
+
+array-read-saturated-2 : tie.Need-array-read-saturated-2
+array-read-saturated-2 c = search needs
+
+saturated-requires-2 : tie.Need-saturated-requires-2
+saturated-requires-2 c κs = search needs
+
+array-read-saturated-3 : tie.Need-array-read-saturated-3
+array-read-saturated-3 c = search needs
+
+saturated-requires-3 : tie.Need-saturated-requires-3
+saturated-requires-3 c κs = search needs
+
+array-read-saturated-4 : tie.Need-array-read-saturated-4
+array-read-saturated-4 c = search needs
+
+saturated-requires-4 : tie.Need-saturated-requires-4
+saturated-requires-4 c κs = search needs
+
+returns : tie.Need-returns
+returns c =
+    let told = c .before .before .before .before .before .told .ensures in
+    simp (
+      c .saturated4 .ensures,
+      c .before .saturated3 .ensures,
+      c .before .before .saturated2 .ensures,
+      c .before .before .before .saturated .ensures,
+      told,
+      no-fourth,
+    )
+
+pub refusal-out-spec : {M : Type 1} → statement M
+refusal-out-spec =
+    tie.close
+    (tie.spec
+    told-requires
+    array-read-saturated
+    saturated-requires
+    array-read-saturated-2
+    saturated-requires-2
+    array-read-saturated-3
+    saturated-requires-3
+    array-read-saturated-4
+    saturated-requires-4
+    returns)

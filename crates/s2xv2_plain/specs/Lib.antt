@@ -1,0 +1,3 @@
+pub mod Core
+pub mod Output
+pub mod Input

@@ -1,0 +1,7 @@
+// A record and an answer as plain numbers: what crosses to C and Rust, and what the reader and the writer work on.
+pub mod clear;
+mod flags;
+pub mod input;
+pub mod output;
+pub mod places;
+pub mod types;

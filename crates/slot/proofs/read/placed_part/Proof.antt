@@ -1,0 +1,45 @@
+-- `slot::read::placed_part` meets its contract: a start that is not 0 is what the reader tells, and lies inside the body; 0 is a refusal's.
+-- Assumes nothing.
+use mathlib.Core.Path.{_≡_, sym, _∙_}
+use Prim.Native.Nat.{_+_, _-_}
+use native.Mathlib.Omega.{arith}
+use denote.Ref.{now}
+use lib.ListN.{length}
+use Rattle.s2xv2.specs.Read.{readTold}
+use Rattle.s2xv2.proofs.Reach.{accepted-tail}
+use Rattle.s2xv2_reader.proofs.Shown.{tells-end, tells-none}
+use Rattle.slot.specs.Read.{placed}
+use Rattle.slot.specs.Part.{noPart, toldPart}
+use borrow.Author.Needs.{needs}
+use Rattle.slot.proofs.read.placed_part.Statement.{statement}
+use Rattle.slot.proofs.read.placed_part.Tie as tie
+
+tail-start-requires : tie.Need-tail-start-requires
+tail-start-requires c κs = search needs
+
+returns : tie.Need-returns
+returns c =
+    let b = now (c .before .before .before .args .body) in
+    let e : noPart ≡ toldPart (placed (length b) (readTold b)) = simp (tells-none b (sym (c .if1 .taken) ∙ c .before .tail-start .ensures)) in
+    e
+
+add-t4 : tie.Need-add-t4
+add-t4 c =
+    let b = now (c .before .before .before .args .body) in
+    omega (arith, accepted-tail b _ (tells-end b _ (c .before .tail-start .ensures) (c .if1 .left)) .1, c .before .before .before .pre)
+
+sub-t6 : tie.Need-sub-t6
+sub-t6 c =
+    let b = now (c .before .before .before .args .body) in
+    accepted-tail b _ (tells-end b _ (c .before .tail-start .ensures) (c .if1 .left)) .1
+
+returns-2 : tie.Need-returns-2
+returns-2 c =
+    let b = now (c .before .before .before .args .body) in
+    let q = c .before .tail-start .result in
+    let t = tells-end b q (c .before .tail-start .ensures) (c .if1 .left) in
+    let e : record { place = q + 3; length = length b - q } ≡ toldPart (placed (length b) (readTold b)) = simp (sym t) in
+    e
+
+pub placed-part-spec : {M : Type 1} → statement M
+placed-part-spec = tie.close (tie.spec tail-start-requires returns add-t4 sub-t6 returns-2)
