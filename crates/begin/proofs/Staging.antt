@@ -2,24 +2,20 @@
 -- So it is in zeros that are lent (`stages`), and what is staged so and fits is begun (`begun`).
 -- Assumes nothing.
 use mathlib.Core.Path.{_≡_, sym, ap, _∙_}
-use mathlib.Core.Bool.{Bool, true, false}
+use mathlib.Core.Bool.{true}
 use mathlib.Core.List.{List, [], _∷_, _++_, append-nil}
 use Prim.Native.Nat.{ℕ, suc, _+_, _-_, _≤_}
 use native.Mathlib.Omega.{arith}
-use lib.ListN.{length, drop, set, replicate, length-replicate, replicate-append-replicate}
+use lib.ListN.{length, getD, drop, set, replicate, length-replicate, replicate-append-replicate}
 use lib.Seq.{drop-at}
-use lib.Dec.{ltb}
 use borrow.Rule.Slice.PartMut.{midOf, putMid}
-use Rattle.wire.specs.Flags.{when}
-use Rattle.answers.specs.Answer.{saturated, numberOf}
+use Rattle.answers.specs.Answer.{numberOf}
 use Rattle.s2xv2.specs.declared.record.S2Xv2SatelliteDeliverySystem.{S2Xv2SatelliteDeliverySystem}
 use Rattle.s2xv2.specs.Encode.{encode, encodedLength}
 use Rattle.s2xv2.specs.Write.{writeTold, written}
 use Rattle.s2xv2.proofs.Whole.{encode-length}
 use Rattle.s2xv2.proofs.Written.{Writable, accepted-writable, told-written}
-use Rattle.s2xv2_plain.specs.Output.{answerOut}
-use Rattle.s2xv2_plain.specs.declared.types.PlainAnswer.{PlainAnswer}
-use Rattle.s2xv2_plain.proofs.Answers.{told-as-is}
+use Rattle.s2xv2_writer.specs.Wrote.{Wrote}
 use Rattle.form.specs.Envelope.{tag, extension}
 use Rattle.form.specs.Form.{goodForm}
 use Rattle.form.proofs.GoodForm.{form-size}
@@ -34,14 +30,6 @@ drop-zeros e m h =
     ap (λ (k : ℕ). drop {A = ℕ} e (replicate k 0)) (sym q)
     ∙ ap (drop {A = ℕ} e) (sym (replicate-append-replicate e (m - e) 0))
     ∙ drop-at {A = ℕ} (replicate e 0) (replicate (m - e) 0) e (length-replicate e 0)
-
--- a number that is told as 0 is 0
-none : (n : ℕ) → saturated n ≡ 0 → n ≡ 0
-none n e = go (ltb 65535 n) e
-  where
-    go : (c : Bool) → when c 65535 n ≡ 0 → n ≡ 0
-    go true d = absurd (omega (arith, d))
-    go false d = d
 
 -- what the writer leaves of a buffer that it accepts
 module _ (r : S2Xv2SatelliteDeliverySystem) (tail : List ℕ) where
@@ -93,36 +81,26 @@ module _ (z : List ℕ) (zeros : z ≡ replicate 257 0) where
   laid : (body : List ℕ) (v : ℕ) → set (set (set (putMid 3 (length z - 3) z body) 0 tag) 1 v) 2 extension ≡ tag ∷ v ∷ extension ∷ (body ++ [])
   laid body v = ap (λ (l : List ℕ). set (set (set (putMid 3 (length l - 3) l body) 0 tag) 1 v) 2 extension) zeros
 
-  module _ (r : S2Xv2SatelliteDeliverySystem) (tail body : List ℕ) (a : PlainAnswer)
-      (told : a ≡ answerOut (writeTold r tail (length (midOf 3 (length z - 3) z))))
-      (wrote : body ≡ written r tail (midOf 3 (length z - 3) z)) (zero : a .number ≡ 0) where
-    number : numberOf (writeTold r tail 254) ≡ 0
-    number =
-        none (numberOf (writeTold r tail 254))
-        (ap (λ (l : List ℕ). answerOut (writeTold r tail (length l)) .number) (sym lent-part) ∙ ap (λ (a : PlainAnswer). a .number) (sym told) ∙ zero)
+  module _ (r : S2Xv2SatelliteDeliverySystem) (tail body : List ℕ) (n : ℕ) (wrote : Wrote n r tail (midOf 3 (length z - 3) z) body) where
+    told : writeTold r tail 254 ≡ 0 ∷ n ∷ []
+    told = ap (λ (l : List ℕ). writeTold r tail (length l)) (sym lent-part) ∙ wrote .told
 
     can : Writable r tail 254
-    can = accepted-writable r tail 254 number
+    can = accepted-writable r tail 254 (ap numberOf told)
 
-    tells : writeTold r tail 254 ≡ 0 ∷ encodedLength r tail ∷ []
-    tells = told-written r tail (can .consistent) (can .within) 254 (can .fits) (can .carried)
-
-    pub length-told : (a .first ≡ encodedLength r tail) × (encodedLength r tail ≤ 254)
+    pub length-told : (n ≡ encodedLength r tail) × (encodedLength r tail ≤ 254)
     length-told =
-        let h = can .fits in (
-          ap (λ (a : PlainAnswer). a .first) told ∙ ap (λ (l : List ℕ). answerOut (writeTold r tail (length l)) .first) lent-part
-              ∙ ap (λ (l : List ℕ). answerOut l .first) tells ∙ told-as-is (encodedLength r tail) (omega arith),
-          h,
-        )
+        let tells = told-written r tail (can .consistent) (can .within) 254 (can .fits) (can .carried) in
+        (ap (λ (l : List ℕ). getD l 1 0) (sym told ∙ tells), can .fits)
 
-    pub stages : Staged (a .first + 3) r tail (set (set (set (putMid 3 (length z - 3) z body) 0 tag) 1 (a .first + 1)) 2 extension)
+    pub stages : Staged (n + 3) r tail (set (set (set (putMid 3 (length z - 3) z body) 0 tag) 1 (n + 1)) 2 extension)
     stages =
         let f = length-told .0 in
-        let s : a .first + 3 ≡ sizeOf r tail = omega arith in
-        let v : a .first + 1 ≡ a .first + 3 - 2 = omega arith in
-        let w = wrote ∙ ap (written r tail) lent-part ∙ writes r tail (encodedLength r tail) (replicate 254 0) (sym tells) in
-        let b = staged-is (a .first + 3) r tail s (can .fits) body w in
-        record { size = s; written = number; bytes = laid body (a .first + 1) ∙ ap (λ (v : ℕ). tag ∷ v ∷ extension ∷ (body ++ [])) v ∙ b }
+        let s : n + 3 ≡ sizeOf r tail = omega arith in
+        let v : n + 1 ≡ n + 3 - 2 = omega arith in
+        let w = wrote .left ∙ ap (written r tail) lent-part ∙ writes r tail n (replicate 254 0) (sym told) in
+        let b = staged-is (n + 3) r tail s (can .fits) body w in
+        record { size = s; written = ap numberOf told; bytes = laid body (n + 1) ∙ ap (λ (v : ℕ). tag ∷ v ∷ extension ∷ (body ++ [])) v ∙ b }
 
 -- what is staged and fits a slot in good form is begun
 pub begun : (s : List ℕ) (r : S2Xv2SatelliteDeliverySystem) (tail staged : List ℕ) (d : ℕ) → goodForm s ≡ true → Staged d r tail staged

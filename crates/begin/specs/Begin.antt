@@ -14,6 +14,7 @@
 -- `begunSeen`     that of what the call returns
 -- `answered`      that of what is told, with the job or `noJob`
 -- `beginOf`       what begin answers for a slot, a record and its tail
+-- `beginPlain`    the same for the record that plain numbers mean
 -- `sizesOf`       the numbers of a job, as they cross
 use Prim.Native.Nat.{ℕ, _+_, _-_, _≤_}
 use mathlib.Core.Path.{_≡_}
@@ -29,6 +30,7 @@ use Rattle.s2xv2.specs.Encode.{encode, encodedLength}
 use Rattle.s2xv2.specs.ListA.{inconsistency}
 use Rattle.s2xv2.specs.ListB.{unwritable}
 use Rattle.s2xv2.specs.Write.{writeTold}
+use Rattle.s2xv2_plain.specs.Input.{meant}
 use Rattle.form.specs.Envelope.{envelope, envelopeSize}
 use Rattle.form.specs.Form.{goodForm}
 use Rattle.job.specs.declared.job.Job.{Job}
@@ -101,6 +103,9 @@ answered told n r tail = record { told = told; job = when (eqb (numberOf told) 0
 -- WHAT BEGIN ANSWERS for a slot, a record and its tail
 unfoldable pub beginOf : List ℕ → S2Xv2SatelliteDeliverySystem → List ℕ → Begins
 beginOf s r tail = answered (beginTold s r tail) (length s) r tail
+
+abbrev pub beginPlain : List ℕ → List ℕ → List ℕ → List ℕ → Begins
+beginPlain s ws bs tail = beginOf s (meant ws bs) tail
 
 -- its slot size, its descriptor size, and the stores made
 abbrev pub sizesOf : Job → List ℕ

@@ -7,7 +7,7 @@ ghost use Rattle.answers.specs.Answer.{numbers};
 ghost use Rattle.job.specs.Job.{jobOf, fitsIn};
 ghost use Rattle.s2xv2_plain.specs.Input.{meant};
 ghost use Rattle.s2xv2_plain.specs.Output.{answerOut};
-ghost use Rattle.begin.specs.Begin.{Sized, noJob, fitTold, stageTold, begunSeen, answered, beginOf, sizesOf, stagedSize, Staged};
+ghost use Rattle.begin.specs.Begin.{Sized, noJob, fitTold, stageTold, begunSeen, answered, beginOf, beginPlain, sizesOf, stagedSize, Staged};
 use answers::answer::Answer;
 use answers::answer::Refusal;
 use form::envelope::EXTENSION;
@@ -19,7 +19,7 @@ use s2xv2_plain::input::of_plain;
 use s2xv2_plain::output::accepted;
 use s2xv2_plain::output::answer_out;
 use s2xv2_plain::types::PlainAnswer;
-use s2xv2_writer::serialize_plain;
+use s2xv2_writer::write_ready;
 
 // The answer, and the job: where begin is refused all of its bytes and numbers are 0, and step refuses it.
 pub struct Begun {
@@ -126,15 +126,14 @@ fn stage_plain(w: &[u32; 10], b: &[u8; 36], reserved_tail: &[u8], staged: &mut [
     requires { ⌜ now staged ≡ replicate stagedSize 0 ⌝ }
     ensures { λ d. ⌜ ((d ≡ 0 → ⊥) → Staged d (meant (now (w .entry)) (now (b .entry))) (now («reserved_tail» .entry)) (now (staged .exit))) ⌝ }
 {
-    let answer = serialize_plain(w, b, reserved_tail, &mut staged[3..]);
-    if answer.number == 0 {
-        let length = answer.first;
-        staged[0] = TAG;
-        staged[1] = (length + 1) as u8;
-        staged[2] = EXTENSION;
-        return (length as usize) + 3;
+    let length = write_ready(w, b, reserved_tail, &mut staged[3..]);
+    if length == 0 {
+        return 0;
     }
-    0
+    staged[0] = TAG;
+    staged[1] = (length + 1) as u8;
+    staged[2] = EXTENSION;
+    length + 3
 }
 
 // `begin` of the record that plain numbers mean, into a job that is lent, the long way.
@@ -146,9 +145,9 @@ fn begin_judged(
     staged: &mut [u8; 257],
     sizes: &mut [usize; 3],
 ) -> PlainAnswer
-    ensures answer { λ a. ⌜ a ≡ answerOut (beginOf (now (slot .entry)) (meant (now (w .entry)) (now (b .entry))) (now («reserved_tail» .entry)) .told) ⌝ }
-    ensures bytes { λ _. ⌜ now (staged .exit) ≡ beginOf (now (slot .entry)) (meant (now (w .entry)) (now (b .entry))) (now («reserved_tail» .entry)) .job .staged ⌝ }
-    ensures numbers { λ _. ⌜ now (sizes .exit) ≡ sizesOf (beginOf (now (slot .entry)) (meant (now (w .entry)) (now (b .entry))) (now («reserved_tail» .entry)) .job) ⌝ }
+    ensures answer { λ a. ⌜ a ≡ answerOut (beginPlain (now (slot .entry)) (now (w .entry)) (now (b .entry)) (now («reserved_tail» .entry)) .told) ⌝ }
+    ensures bytes { λ _. ⌜ now (staged .exit) ≡ beginPlain (now (slot .entry)) (now (w .entry)) (now (b .entry)) (now («reserved_tail» .entry)) .job .staged ⌝ }
+    ensures numbers { λ _. ⌜ now (sizes .exit) ≡ sizesOf (beginPlain (now (slot .entry)) (now (w .entry)) (now (b .entry)) (now («reserved_tail» .entry)) .job) ⌝ }
 {
     let begun = begin(slot, of_plain(w, b), reserved_tail);
     let answer = begun.answer;
@@ -169,9 +168,9 @@ pub fn begin_plain(
     staged: &mut [u8; 257],
     sizes: &mut [usize; 3],
 ) -> PlainAnswer
-    ensures answer { λ a. ⌜ a ≡ answerOut (beginOf (now (slot .entry)) (meant (now (w .entry)) (now (b .entry))) (now («reserved_tail» .entry)) .told) ⌝ }
-    ensures bytes { λ _. ⌜ now (staged .exit) ≡ beginOf (now (slot .entry)) (meant (now (w .entry)) (now (b .entry))) (now («reserved_tail» .entry)) .job .staged ⌝ }
-    ensures numbers { λ _. ⌜ now (sizes .exit) ≡ sizesOf (beginOf (now (slot .entry)) (meant (now (w .entry)) (now (b .entry))) (now («reserved_tail» .entry)) .job) ⌝ }
+    ensures answer { λ a. ⌜ a ≡ answerOut (beginPlain (now (slot .entry)) (now (w .entry)) (now (b .entry)) (now («reserved_tail» .entry)) .told) ⌝ }
+    ensures bytes { λ _. ⌜ now (staged .exit) ≡ beginPlain (now (slot .entry)) (now (w .entry)) (now (b .entry)) (now («reserved_tail» .entry)) .job .staged ⌝ }
+    ensures numbers { λ _. ⌜ now (sizes .exit) ≡ sizesOf (beginPlain (now (slot .entry)) (now (w .entry)) (now (b .entry)) (now («reserved_tail» .entry)) .job) ⌝ }
 {
     if in_form(slot) {
         let n = slot.len();

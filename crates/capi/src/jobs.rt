@@ -2,9 +2,8 @@
 ghost use mathlib.Core.Path.{_≡_};
 ghost use lib.ListN.{length};
 ghost use Rattle.s2xv2_plain.specs.Output.{answerOut};
-ghost use Rattle.s2xv2_plain.specs.Input.{meant};
 ghost use Rattle.job.specs.Step.{stepTold, stepOf, slotAfter};
-ghost use Rattle.begin.specs.Begin.{beginOf, sizesOf};
+ghost use Rattle.begin.specs.Begin.{beginPlain, sizesOf};
 ghost use Rattle.job.specs.Job.{jobOf};
 ghost use Rattle.capi.specs.Job.{numberIn, steppedOut, movedOut, SteppedInPlace};
 use job::job::Job;
@@ -37,9 +36,9 @@ pub extern "C" fn s2xv2_raw_begin(
     staged: &mut [u8; 257],
     sizes: &mut [usize; 3],
 ) -> PlainAnswer
-    ensures answer { λ r. ⌜ r ≡ answerOut (beginOf (now (s .entry)) (meant (now (w .entry)) (now (b .entry))) (now («reserved_tail» .entry)) .told) ⌝ }
-    ensures bytes { λ _. ⌜ now (staged .exit) ≡ beginOf (now (s .entry)) (meant (now (w .entry)) (now (b .entry))) (now («reserved_tail» .entry)) .job .staged ⌝ }
-    ensures numbers { λ _. ⌜ now (sizes .exit) ≡ sizesOf (beginOf (now (s .entry)) (meant (now (w .entry)) (now (b .entry))) (now («reserved_tail» .entry)) .job) ⌝ }
+    ensures answer { λ r. ⌜ r ≡ answerOut (beginPlain (now (s .entry)) (now (w .entry)) (now (b .entry)) (now («reserved_tail» .entry)) .told) ⌝ }
+    ensures bytes { λ _. ⌜ now (staged .exit) ≡ beginPlain (now (s .entry)) (now (w .entry)) (now (b .entry)) (now («reserved_tail» .entry)) .job .staged ⌝ }
+    ensures numbers { λ _. ⌜ now (sizes .exit) ≡ sizesOf (beginPlain (now (s .entry)) (now (w .entry)) (now (b .entry)) (now («reserved_tail» .entry)) .job) ⌝ }
 {
     begin::begin_plain(s, w, b, reserved_tail, staged, sizes)
 }

@@ -111,7 +111,8 @@ fn scrambling_fits(set: u8, has: u8, index: u32, reserved: u8) -> bool
 
 // Under channel_bond 1 there are one or two bonds, and the wire can carry their header; else there is none.
 fn bonds_fit(bond: u8, count: u8, reserved: u8) -> bool
-    ensures { λ r. ⌜ (r ≡ true → Clear (and (ltb 0 count) (not (eqb bond 1)) ∷ and (eqb bond 1) (wide 1 (lessOne count)) ∷ and (eqb bond 1) (wide 7 reserved) ∷ [])) ⌝ }
+    ensures agree { λ r. ⌜ (r ≡ true → and (ltb 0 count) (not (eqb bond 1)) ≡ false) ⌝ }
+    ensures fit { λ r. ⌜ (r ≡ true → Clear (and (eqb bond 1) (wide 1 (lessOne count)) ∷ and (eqb bond 1) (wide 7 reserved) ∷ [])) ⌝ }
 {
     if bond == 1 {
         less_one(count) < 2 && reserved < 128

@@ -89,7 +89,8 @@ pub fn serialized_len_plain(w: &[u32; 10], b: &[u8; 36], reserved_tail: &[u8]) -
 // Whether a record that passes the quick tests fits `room` bytes with a tail of `tail`, and 4,096. No such record has more than 44 bytes without its tail.
 fn has_room(b: &[u8; 36], tail: usize, room: usize) -> bool
     requires { ⌜ Fits (now b) ⌝ }
-    ensures { λ r. ⌜ (r ≡ true → (ws : List ℕ) → (sizes (partsOf (meant ws (now (b .entry)))) + tail ≤ 4096) × (sizes (partsOf (meant ws (now (b .entry)))) + tail ≤ room)) ⌝ }
+    ensures within { λ r. ⌜ (r ≡ true → (ws : List ℕ) → sizes (partsOf (meant ws (now (b .entry)))) + tail ≤ 4096) ⌝ }
+    ensures fits { λ r. ⌜ (r ≡ true → (ws : List ℕ) → sizes (partsOf (meant ws (now (b .entry)))) + tail ≤ room) ⌝ }
 {
     if tail <= 4052 {
         if tail + 44 <= room {

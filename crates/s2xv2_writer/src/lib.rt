@@ -11,6 +11,7 @@ ghost use Rattle.answers.proofs.Tests.{Clear};
 ghost use Rattle.s2xv2_plain.specs.Input.{meant};
 ghost use Rattle.s2xv2_plain.specs.Output.{answerOut};
 ghost use Rattle.s2xv2_measure.specs.Quick.{Packed};
+ghost use Rattle.s2xv2_writer.specs.Wrote.{Wrote};
 use answers::answer::Answer;
 use s2xv2::record::S2Xv2SatelliteDeliverySystem;
 use s2xv2_measure::is_ready;
@@ -77,6 +78,18 @@ pub fn serialize_into(
         put_all(buf, &numbers, &bytes, reserved_tail);
     }
     answer
+}
+
+// Writes the record that plain numbers mean and its tail to the start of `buf` if a quick look finds that nothing is refused, and answers how many bytes
+// that took; else it stores nothing and answers 0.
+pub fn write_ready(w: &[u32; 10], b: &[u8; 36], reserved_tail: &[u8], buf: &mut [u8]) -> usize
+    ensures wrote { λ n. ⌜ ((n ≡ 0 → ⊥) → Wrote n (meant (now (w .entry)) (now (b .entry))) (now («reserved_tail» .entry)) (now (buf .entry)) (now (buf .exit))) ⌝ }
+    ensures kept { λ n. ⌜ (n ≡ 0 → now (buf .exit) ≡ now (buf .entry)) ⌝ }
+{
+    if !is_ready(w, b, reserved_tail, buf.len()) {
+        return 0;
+    }
+    put_all(buf, w, b, reserved_tail)
 }
 
 // `serialize_into` of the record that plain numbers mean, the long way.

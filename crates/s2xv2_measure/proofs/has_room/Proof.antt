@@ -17,7 +17,10 @@ add-if2 c = search needs
 returns : tie.Need-returns
 returns c =
     let start = c .before .before in
-    λ e ws. let m = most ws (now (start .args .b)) (start .pre) in (omega (arith, m, c .before .if1 .taken), omega (arith, m, c .if2 .taken))
+    let b = now (start .args .b) in (
+      (λ e ws. omega (arith, most ws b (start .pre), c .before .if1 .taken)),
+      (λ e ws. omega (arith, most ws b (start .pre), c .if2 .taken)),
+    )
 
 parts-len-requires : tie.Need-parts-len-requires
 parts-len-requires c κs = search needs
@@ -31,12 +34,13 @@ add-need c = search needs
 returns-2 : tie.Need-returns-2
 returns-2 c =
     let t = c .tail-len .ensures in
-    λ e ws.
-    let p = c .before .parts-len .ensures .0 ws in
+    let p = c .before .parts-len .ensures .0 in
     let need = c .before .parts-len .result + c .tail-len .result in
-    let held = both-hold (leb need 4096) (leb need (c .before .before .before .args .room)) e in
-    let h = leb-true need 4096 (held .0) in
-    (omega (arith, p, t, h), omega (arith, p, t, h, leb-true need _ (held .1)))
+    let room = c .before .before .before .args .room in
+    let held = both-hold (leb need 4096) (leb need room) in (
+      (λ e ws. omega (arith, p ws, t, leb-true need 4096 (held e .0))),
+      (λ e ws. omega (arith, p ws, t, leb-true need 4096 (held e .0), leb-true need room (held e .1))),
+    )
 
 pub has-room-spec : {M : Type 1} → statement M
 has-room-spec =

@@ -21,7 +21,7 @@ returns c =
     let w = now (start .args .w) in
     let fits = c .before .before .fits2 .ensures in
     let taken = c .before .if1 .taken in (
-      (λ e. ready _ (now (start .args .reserved-tail)) 0 _ (fits .0 taken) (c .has-room .ensures e w)),
+      (λ e. ready _ (now (start .args .reserved-tail)) 0 _ (fits .0 taken) (c .has-room .ensures .0 e w, c .has-room .ensures .1 e w)),
       (λ e. fits .1 taken .packed),
     )
 

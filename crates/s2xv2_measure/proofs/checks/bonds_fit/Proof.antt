@@ -16,13 +16,16 @@ returns : tie.Need-returns
 returns c =
     let a = c .before .before .before .args in
     let few = lt-leb 2 _ (rw (c .before .less-one .ensures) at (c .if2 .taken)) in
-    λ e. rw (eq-eqb _ _ (c .before .before .if1 .taken)) (and-false (ltb 0 (a .count)), (few, (fits 128 (a .reserved) e, tt)))
+    let one = eq-eqb _ _ (c .before .before .if1 .taken) in
+    ((λ e. rw one (and-false (ltb 0 (a .count)))), (λ e. rw one (few, (fits 128 (a .reserved) e, tt))))
 
 returns-2 : tie.Need-returns-2
-returns-2 c = λ e. never (sym (le-ltb _ _ (c .if2 .left)) ∙ e)
+returns-2 c = let no = sym (le-ltb _ _ (c .if2 .left)) in ((λ e. never (no ∙ e)), (λ e. never (no ∙ e)))
 
 returns-3 : tie.Need-returns-3
-returns-3 c = λ e. rw (ne-eqb _ _ (c .if1 .left), eqb-true (c .before .args .count) 0 e) (refl, (refl, (refl, tt)))
+returns-3 c =
+    let other = ne-eqb _ _ (c .if1 .left) in
+    ((λ e. rw (eqb-true (c .before .args .count) 0 e) refl), (λ e. rw other (refl, (refl, tt))))
 
 pub bonds-fit-spec : {M : Type 1} → statement M
 bonds-fit-spec = tie.close (tie.spec less-one-requires returns returns-2 returns-3)

@@ -59,9 +59,10 @@ returns c =
     let a = c .before .before .before .before .before .agrees .ensures (w2 .0 .taken) in
     let core = sym (w2 .2) ∙ w3 .0 .taken in
     let scrambling = w3 .5 .ensures (sym (w3 .6) ∙ w4 .0 .taken) in
-    let bonds = w4 .4 .ensures (sym (w4 .5) ∙ c .before .if4 .taken) in
+    let bonds = w4 .4 .ensures in
+    let fit = sym (w4 .5) ∙ c .before .if4 .taken in
     let bits = w2 .1 .ensures .1 core in (
-      (λ e. (consistent w b a (scrambling .0) (bonds .0), carried w b a (w2 .1 .ensures .0 core) scrambling (bonds .1) (c .superframe-fits .ensures e))),
+      (λ e. (consistent w b a (scrambling .0) (bonds .0 fit), carried w b a (w2 .1 .ensures .0 core) scrambling (bonds .1 fit) (c .superframe-fits .ensures e))),
       (λ e. record {
         counted = counted w b a;
         packed = record {
@@ -73,7 +74,7 @@ returns c =
           version = bits .1;
           asked = set-there _ _ (a .bits .1) (scrambling .0);
         };
-        few = few-bonds _ _ (bonds .1 .0);
+        few = few-bonds _ _ (bonds .1 fit .0);
       }),
     )
 
