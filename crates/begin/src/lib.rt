@@ -136,30 +136,8 @@ fn stage_plain(w: &[u32; 10], b: &[u8; 36], reserved_tail: &[u8], staged: &mut [
     length + 3
 }
 
-// `begin` of the record that plain numbers mean, into a job that is lent, the long way.
-fn begin_judged(
-    slot: &[u8],
-    w: &[u32; 10],
-    b: &[u8; 36],
-    reserved_tail: &[u8],
-    staged: &mut [u8; 257],
-    sizes: &mut [usize; 3],
-) -> PlainAnswer
-    ensures answer { λ a. ⌜ a ≡ answerOut (beginPlain (now (slot .entry)) (now (w .entry)) (now (b .entry)) (now («reserved_tail» .entry)) .told) ⌝ }
-    ensures bytes { λ _. ⌜ now (staged .exit) ≡ beginPlain (now (slot .entry)) (now (w .entry)) (now (b .entry)) (now («reserved_tail» .entry)) .job .staged ⌝ }
-    ensures numbers { λ _. ⌜ now (sizes .exit) ≡ sizesOf (beginPlain (now (slot .entry)) (now (w .entry)) (now (b .entry)) (now («reserved_tail» .entry)) .job) ⌝ }
-{
-    let begun = begin(slot, of_plain(w, b), reserved_tail);
-    let answer = begun.answer;
-    let job = begun.job;
-    let bytes = job.staged;
-    *staged = bytes;
-    *sizes = [job.slot_size, job.descriptor_size, job.stores_made];
-    answer_out(answer)
-}
-
 // `begin` of the record that plain numbers mean, into a job that is lent: its staged bytes, and its slot size, its descriptor size and the stores made. One
-// that passes the writer's quick tests and fits is judged and written once.
+// that passes the writer's quick tests and fits is judged and written once; any other goes the long way.
 pub fn begin_plain(
     slot: &[u8],
     w: &[u32; 10],
@@ -181,5 +159,11 @@ pub fn begin_plain(
             return accepted((n + 2) as u16);
         }
     }
-    begin_judged(slot, w, b, reserved_tail, staged, sizes)
+    let begun = begin(slot, of_plain(w, b), reserved_tail);
+    let answer = begun.answer;
+    let job = begun.job;
+    let bytes = job.staged;
+    *staged = bytes;
+    *sizes = [job.slot_size, job.descriptor_size, job.stores_made];
+    answer_out(answer)
 }

@@ -3,7 +3,7 @@
 -- Assumes nothing.
 use mathlib.Core.Path.{_≡_, refl}
 use mathlib.Core.Bool.{Bool, true, false}
-use mathlib.Core.List.{List, [], _∷_}
+use mathlib.Core.List.{List, [], _∷_, _++_, map}
 use Prim.Native.Nat.{ℕ}
 use lib.ListN.{getD}
 use Rattle.wire.specs.Flags.{when, only}
@@ -28,6 +28,10 @@ numbersUnder t ws bs =
     ∷ only t (only (isSet (getD bs 7 0)) (getD ws 9 0))
     ∷ []
 
+-- what stands at these places, whatever a flag says
+abbrev kept : List ℕ → List ℕ → List ℕ
+kept bs = map (λ (i : ℕ). getD bs i 0)
+
 abbrev bytesUnder : Bool → List ℕ → List ℕ
 bytesUnder t bs =
     getD bs 0 0
@@ -38,23 +42,8 @@ bytesUnder t bs =
     ∷ getD bs 5 0
     ∷ only t (getD bs 6 0)
     ∷ only t (getD bs 7 0)
-    ∷ getD bs 8 0
-    ∷ getD bs 9 0
-    ∷ getD bs 10 0
-    ∷ getD bs 11 0
-    ∷ getD bs 12 0
-    ∷ getD bs 13 0
-    ∷ getD bs 14 0
-    ∷ getD bs 15 0
-    ∷ getD bs 16 0
-    ∷ getD bs 17 0
-    ∷ getD bs 18 0
-    ∷ getD bs 19 0
-    ∷ getD bs 20 0
-    ∷ getD bs 21 0
-    ∷ getD bs 22 0
-    ∷ getD bs 23 0
-    ∷ only (isSet (getD bs 4 0)) (getD bs 24 0)
+    ∷ kept bs (8 ∷ 9 ∷ 10 ∷ 11 ∷ 12 ∷ 13 ∷ 14 ∷ 15 ∷ 16 ∷ 17 ∷ 18 ∷ 19 ∷ 20 ∷ 21 ∷ 22 ∷ 23 ∷ [])
+    ++ (only (isSet (getD bs 4 0)) (getD bs 24 0)
     ∷ only (isSet (getD bs 10 0)) (getD bs 25 0)
     ∷ getD bs 26 0
     ∷ only t (getD bs 27 0)
@@ -66,7 +55,7 @@ bytesUnder t bs =
     ∷ 0
     ∷ 0
     ∷ 0
-    ∷ []
+    ∷ [])
 
 abbrev pub presentNumbers : List ℕ → List ℕ → List ℕ
 presentNumbers ws bs = numbersUnder (isSet (getD bs 11 0)) ws bs

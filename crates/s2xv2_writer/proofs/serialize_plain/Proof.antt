@@ -40,14 +40,22 @@ returns c =
     let wrote = ready-wrote (meant (now (a .w)) (now (a .b))) (now (a .reserved-tail)) (now (a .buf)) _ _ ready (e .0) (e .1) in
     (c .accepted .ensures ∙ ap answerOut (sym (wrote .told)), wrote .left)
 
-serialize-judged-requires : tie.Need-serialize-judged-requires
-serialize-judged-requires c κs = search needs
+of-plain-requires : tie.Need-of-plain-requires
+of-plain-requires c κs = search needs
+
+serialize-into-requires : tie.Need-serialize-into-requires
+serialize-into-requires c κs = search needs
+
+answer-out-requires : tie.Need-answer-out-requires
+answer-out-requires c κs = search needs
 
 same-length-2 : tie.Need-same-length-2
 same-length-2 c = search needs
 
 returns-2 : tie.Need-returns-2
-returns-2 c = search needs
+returns-2 c =
+    let e = rw (c .before .before .before .before .before .of-plain .ensures) at (c .before .before .before .serialize-into .ensures) in
+    (c .answer-out .ensures ∙ ap answerOut (e .0), e .1)
 
 pub serialize-plain-spec : {M : Type 1} → statement M
 serialize-plain-spec =
@@ -59,6 +67,8 @@ serialize-plain-spec =
     accepted-requires
     same-length
     returns
-    serialize-judged-requires
+    of-plain-requires
+    serialize-into-requires
+    answer-out-requires
     same-length-2
     returns-2)

@@ -2,17 +2,20 @@
 -- Assumes nothing.
 use mathlib.Core.Path.{refl, sym, ap, _∙_}
 use mathlib.Core.List.{List, [], _∷_, _++_}
-use Prim.Native.Nat.{ℕ}
+use Prim.Native.Nat.{ℕ, _+_, _≤_}
 use native.Mathlib.Omega.{arith}
 use lib.ListN.{getD}
 use denote.Ref.{now}
 use Rattle.wire.specs.Store.{storedFrom}
 use Rattle.wire.proofs.Stores.{run}
 use Rattle.wire.specs.Widths.{pack}
-use Rattle.wire.specs.Parts.{Part, _⦂_}
+use Rattle.wire.specs.Parts.{Part, _⦂_, sizes}
 use Rattle.wire.proofs.Parts.{sizes-append}
 use Rattle.s2xv2.specs.Table144b as T
-use Rattle.s2xv2.specs.Encode.{superframeValues, planParts, superframeEndValues}
+use Rattle.s2xv2.specs.Encode.{superframeValues, planParts, superframeEndValues, blockParts}
+use Rattle.s2xv2.specs.ListB.{superframeB}
+use Rattle.s2xv2.specs.declared.superframe.OptionSuperframe.the-variants as OS
+use Rattle.answers.proofs.Tests.{Clear}
 use Rattle.answers.specs.declared.option.OptionU32.the-variants as O32
 use Rattle.s2xv2_plain.specs.Input.{isSet, blockIn}
 use Rattle.s2xv2.proofs.Whole.{whole-plan}
@@ -27,6 +30,10 @@ module _ (ws bs : List ℕ) where
 
   abbrev last : List Part
   last = T.lastByte ⦂ superframeEndValues (blockIn ws bs) ∷ []
+
+  -- where there is room for the block there is room for its seven bytes, the plan id and the last byte
+  room : (p : ℕ) {n : ℕ} → Clear (superframeB (OS.Some (blockIn ws bs))) → p + sizes (blockParts (blockIn ws bs)) ≤ n → p + 7 + sizes plan + 1 ≤ n
+  room p clear h = omega (arith, sizes-append plan last, rw (plan-same ws bs clear) at h)
 
 block-bytes-requires : tie.Need-block-bytes-requires
 block-bytes-requires c κs = search needs
@@ -58,48 +65,24 @@ element-copy-out-put-plan-2 c = search needs
 put-plan-requires : tie.Need-put-plan-requires
 put-plan-requires c κs =
     let start = c .before .before .before .before .before .before .before .before .before .before .before .before .before in
-    let ws = now (start .args .w) in
-    let bs = now (start .args .b) in
-    omega (
-      arith,
-      sizes-append (plan ws bs) (last ws bs),
-      rw (plan-same ws bs (start .pre .1 .1)) at (start .pre .0),
-      c .before .before .before .before .before .copy .kept .0,
-    )
+    let fits = room (now (start .args .w)) (now (start .args .b)) (start .args .p) (start .pre .1 .1) (start .pre .0) in
+    omega (arith, fits, c .before .before .before .before .before .copy .kept .0)
 
 put-requires : tie.Need-put-requires
 put-requires c κs =
     let from = c .before .before .before .before .before .before .before .before .before in
     let start = from .before .before .before .before .before .before .before .before in
     let put-plan = c .before .before .before .put-plan in
-    let ws = now (start .args .w) in
-    let bs = now (start .args .b) in
-    omega (
-      arith,
-      sizes-append (plan ws bs) (last ws bs),
-      rw (plan-same ws bs (start .pre .1 .1)) at (start .pre .0),
-      put-plan .kept .0,
-      from .copy .kept .0,
-      put-plan .ensures .0,
-    )
+    let fits = room (now (start .args .w)) (now (start .args .b)) (start .args .p) (start .pre .1 .1) (start .pre .0) in
+    omega (arith, fits, put-plan .kept .0, from .copy .kept .0, put-plan .ensures .0)
 
 add-result : tie.Need-add-result
 add-result c =
     let from = c .before .before .before .before .before .before .before .before .before .before .before .before in
     let start = from .before .before .before .before .before .before .before .before in
     let put-plan = c .before .before .before .before .before .before .put-plan in
-    let ws = now (start .args .w) in
-    let bs = now (start .args .b) in
-    omega (
-      arith,
-      sizes-append (plan ws bs) (last ws bs),
-      rw (plan-same ws bs (start .pre .1 .1)) at (start .pre .0),
-      c .before .before .put .kept .0,
-      put-plan .kept .0,
-      from .copy .kept .0,
-      put-plan .ensures .0,
-      start .good,
-    )
+    let fits = room (now (start .args .w)) (now (start .args .b)) (start .args .p) (start .pre .1 .1) (start .pre .0) in
+    omega (arith, fits, put-plan .ensures .0, start .good)
 
 same-length : tie.Need-same-length
 same-length c = search needs
