@@ -148,7 +148,8 @@ pub fn begin_plain(
 ) -> PlainAnswer
     ensures answer { λ a. ⌜ a ≡ answerOut (beginPlain (now (slot .entry)) (now (w .entry)) (now (b .entry)) (now («reserved_tail» .entry)) .told) ⌝ }
     ensures bytes { λ _. ⌜ now (staged .exit) ≡ beginPlain (now (slot .entry)) (now (w .entry)) (now (b .entry)) (now («reserved_tail» .entry)) .job .staged ⌝ }
-    ensures numbers { λ _. ⌜ now (sizes .exit) ≡ sizesOf (beginPlain (now (slot .entry)) (now (w .entry)) (now (b .entry)) (now («reserved_tail» .entry)) .job) ⌝ }
+    ensures numbers { λ _. ⌜ now (sizes .exit)
+        ≡ sizesOf (beginPlain (now (slot .entry)) (now (w .entry)) (now (b .entry)) (now («reserved_tail» .entry)) .job) ⌝ }
 {
     if in_form(slot) {
         let n = slot.len();

@@ -86,7 +86,8 @@ pub fn advance(
     slot: &mut [u8],
     allowance: usize,
 ) -> Moved
-    ensures told { λ r. ⌜ movedSeen (jobOf (now (staged .entry)) n d k) r ≡ stepOf (jobOf (now (staged .entry)) n d k) (length (now (slot .entry))) allowance ⌝ }
+    ensures told { λ r. ⌜ movedSeen (jobOf (now (staged .entry)) n d k) r
+        ≡ stepOf (jobOf (now (staged .entry)) n d k) (length (now (slot .entry))) allowance ⌝ }
     ensures left { λ _. ⌜ now (slot .exit) ≡ slotAfter (jobOf (now (staged .entry)) n d k) (now (slot .entry)) allowance ⌝ }
 {
     let have = slot.len();

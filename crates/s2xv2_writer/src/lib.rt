@@ -83,7 +83,8 @@ pub fn serialize_into(
 // Writes the record that plain numbers mean and its tail to the start of `buf` if a quick look finds that nothing is refused, and answers how many bytes
 // that took; else it stores nothing and answers 0.
 pub fn write_ready(w: &[u32; 10], b: &[u8; 36], reserved_tail: &[u8], buf: &mut [u8]) -> usize
-    ensures wrote { λ n. ⌜ ((n ≡ 0 → ⊥) → Wrote n (meant (now (w .entry)) (now (b .entry))) (now («reserved_tail» .entry)) (now (buf .entry)) (now (buf .exit))) ⌝ }
+    ensures wrote { λ n. ⌜ ((n ≡ 0 → ⊥)
+        → Wrote n (meant (now (w .entry)) (now (b .entry))) (now («reserved_tail» .entry)) (now (buf .entry)) (now (buf .exit))) ⌝ }
     ensures kept { λ n. ⌜ (n ≡ 0 → now (buf .exit) ≡ now (buf .entry)) ⌝ }
 {
     if !is_ready(w, b, reserved_tail, buf.len()) {
