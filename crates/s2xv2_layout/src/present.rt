@@ -24,12 +24,12 @@ pub struct Present {
 pub fn present_in(s: &[u8]) -> Present
     ensures { λ r. ⌜ r ≡ presentNow (now (s .entry)) ⌝ }
 {
-    let mode = S2Xv2Mode::from_u8(field(byte(s, 4), 16, 16));
+    let row = S2Xv2Mode::from_u8(field(byte(s, 4), 16, 16)).row();
     Present {
         stream: flag_at(s, 4, 8),
-        scrambling: mode.has_scrambling_selector() & flag_at(s, 6, 128),
-        timeslice: mode.has_timeslice(),
+        scrambling: row.selector & flag_at(s, 6, 128),
+        timeslice: row.timeslice,
         bond: field(byte(s, 5), 4, 4) == 1,
-        superframe: mode.has_superframe(),
+        superframe: row.superframe,
     }
 }

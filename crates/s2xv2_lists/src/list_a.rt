@@ -116,6 +116,7 @@ pub fn inconsistency(r: S2Xv2SatelliteDeliverySystem) -> u8
     ensures { λ p. ⌜ p ≡ inconsistency r ⌝ }
 {
     let mode = r.s2xv2_mode;
+    let row = mode.row();
     let stream = r.input_stream_identifier;
     let selector = r.scrambling_sequence_selector;
     let index = r.scrambling_sequence_index;
@@ -124,11 +125,11 @@ pub fn inconsistency(r: S2Xv2SatelliteDeliverySystem) -> u8
     let tests = [
         is_misnamed(mode),
         u8_differs(stream, r.multiple_input_stream_flag),
-        bool_differs(selector, mode.has_scrambling_selector()),
+        bool_differs(selector, row.selector),
         u32_stray(index, selector.is_set()),
-        u8_differs(timeslice, mode.has_timeslice()),
+        u8_differs(timeslice, row.timeslice),
         bonds_stray(r.num_channel_bonds, r.channel_bond),
-        superframe_differs(superframe, mode.has_superframe()),
+        superframe_differs(superframe, row.superframe),
         sffi_stray(superframe),
         plan_stray(superframe),
     ];

@@ -29,7 +29,7 @@ use Rattle.s2xv2_plain.specs.Input.{isSet, blockIn, meant}
 use Rattle.s2xv2_plain.proofs.Back.{set-bit, is-bool, is-8, is-32, is-superframe}
 use Rattle.s2xv2_measure.specs.Quick.{wordOf, WordAt, Agrees, Counted}
 use Rattle.s2xv2_measure.proofs.Words.{apart, below, bit-below}
-use Rattle.s2xv2_measure.proofs.Asked.{mode-same, code-in}
+use Rattle.s2xv2_measure.proofs.Meant.{mode-same, code-in}
 
 -- of two ways, the one on which a test that holds can have held
 pub on-the-way : {W L : Type 0} {b : Bool} → W ⊎ L → (L → b ≡ false) → b ≡ true → W

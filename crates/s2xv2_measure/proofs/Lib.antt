@@ -1,5 +1,5 @@
 pub mod Words
-pub mod Asked
+pub mod Meant
 pub mod Checked
 pub mod Accepted
 pub mod Sizes

@@ -10,9 +10,7 @@ use mathlib.Core.List.{List}
 use lib.ListN.{getD}
 use Rattle.wire.proofs.Flags.{bit-small}
 use Rattle.s2xv2.specs.Table144c.{modeOf, hasSelector, hasTimeslice}
-use Rattle.s2xv2.specs.declared.mode.S2Xv2Mode.{S2Xv2Mode}
-use Rattle.s2xv2.specs.declared.mode.S2Xv2Mode.the-variants as M
-use Rattle.s2xv2_plain.specs.Output.{isReserved}
+use Rattle.s2xv2_plain.proofs.Reserved.{reserved-small}
 use Rattle.s2xv2_measure.specs.Quick.{wordOf, Word, WordAt, askedOf, Agrees}
 
 pub record Four (P Q R S : Type 0) : Type 0 where
@@ -45,15 +43,6 @@ module _ {a b c d r : ℕ} (f : Word a b c d r) where
       record { first = omega arith; second = omega arith; third = omega arith; fourth = omega arith }
 
 -- ---- what is there
-
-reserved-small : (m : S2Xv2Mode) → isReserved m < 2
-reserved-small M.Reserved0 = omega arith
-reserved-small M.S2X = omega arith
-reserved-small M.S2XTimeSlicing = omega arith
-reserved-small M.Reserved3 = omega arith
-reserved-small M.S2XSuperframe = omega arith
-reserved-small M.S2XSuperframeTimeSlicing = omega arith
-reserved-small (M.Reserved v) = omega arith
 
 pub bit-below : (n : ℕ) → n < 256 → bitAnd n 254 ≡ 0 → n < 2
 bit-below n h e = omega (arith, below 7 1 n (omega arith) e)

@@ -10,13 +10,13 @@ ghost use Rattle.wire.specs.Flags.{and, not};
 ghost use Rattle.wire.specs.Count.{lessOne};
 ghost use Rattle.wire.specs.Widths.{wide};
 ghost use Rattle.answers.proofs.Tests.{Clear};
-ghost use Rattle.s2xv2.specs.Table144c.{modeOf};
 ghost use Rattle.s2xv2.specs.ListA.{listA};
 ghost use Rattle.s2xv2.specs.ListB.{coreB, superframeB, listB};
 ghost use Rattle.s2xv2_plain.specs.Input.{isSet, blockIn, meant};
 ghost use Rattle.s2xv2.specs.declared.superframe.OptionSuperframe.the-variants as OS;
-ghost use Rattle.s2xv2_measure.specs.Quick.{Word, WordAt, askedOf, Agrees, Fits};
+ghost use Rattle.s2xv2_measure.specs.Quick.{Word, WordAt, Agrees, Fits};
 use s2xv2_lists::list_b::less_one;
+use s2xv2_plain::asked::asked;
 use s2xv2_plain::places;
 use wire::field::picked;
 
@@ -33,21 +33,6 @@ fn word(b: &[u8; 36], i: usize) -> u32
     ensures { λ r. ⌜ WordAt (now (b .entry)) i r ⌝ }
 {
     join(b[i], b[i + 1], b[i + 2], b[i + 3])
-}
-
-// What a mode asks for, as one word: that it is reserved, a scrambling selector, a timeslice, a superframe block.
-fn asked(code: u8) -> u32
-    ensures { λ r. ⌜ r ≡ askedOf (modeOf code) ⌝ }
-{
-    match code {
-        0 => 0,
-        1 => 256,
-        2 => 65792,
-        3 => 0,
-        4 => 16777216,
-        5 => 16842752,
-        _ => 1,
-    }
 }
 
 // What is there is what is said to be there, and what the mode asks for.

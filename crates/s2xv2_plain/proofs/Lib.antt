@@ -1,3 +1,4 @@
 pub mod Answers
 pub mod Back
 pub mod Absent
+pub mod Reserved

@@ -14,17 +14,14 @@ field-requires c κs = search needs
 from-u8-requires : tie.Need-from-u8-requires
 from-u8-requires c κs = search needs
 
+row-requires : tie.Need-row-requires
+row-requires c κs = search needs
+
 flag-at-requires : tie.Need-flag-at-requires
 flag-at-requires c κs = search needs
 
-has-scrambling-selector-requires : tie.Need-has-scrambling-selector-requires
-has-scrambling-selector-requires c κs = search needs
-
 flag-at-requires-2 : tie.Need-flag-at-requires-2
 flag-at-requires-2 c κs = search needs
-
-has-timeslice-requires : tie.Need-has-timeslice-requires
-has-timeslice-requires c κs = search needs
 
 byte-requires-2 : tie.Need-byte-requires-2
 byte-requires-2 c κs = search needs
@@ -32,21 +29,16 @@ byte-requires-2 c κs = search needs
 field-requires-2 : tie.Need-field-requires-2
 field-requires-2 c κs = search needs
 
-has-superframe-requires : tie.Need-has-superframe-requires
-has-superframe-requires c κs = search needs
-
 returns : tie.Need-returns
 unfolding presentIn
 returns c =
-    let start = c .before .before .before .before .before .before in
+    let start = c .before .before .before .before .before in
     simp (
-      c .has-superframe .ensures,
-      c .before .field2 .ensures,
-      c .before .before .byte2 .ensures,
-      c .before .before .before .has-timeslice .ensures,
-      c .before .before .before .before .flag-at2 .ensures,
-      c .before .before .before .before .before .has-scrambling-selector .ensures,
-      start .flag-at .ensures,
+      c .field2 .ensures,
+      c .before .byte2 .ensures,
+      c .before .before .before .flag-at2 .ensures,
+      c .before .before .before .before .flag-at .ensures,
+      start .row .ensures,
       start .before .from-u8 .ensures,
       start .before .before .field .ensures,
       start .before .before .before .byte .ensures,
@@ -59,11 +51,9 @@ present-in-spec =
     byte-requires
     field-requires
     from-u8-requires
+    row-requires
     flag-at-requires
-    has-scrambling-selector-requires
     flag-at-requires-2
-    has-timeslice-requires
     byte-requires-2
     field-requires-2
-    has-superframe-requires
     returns)

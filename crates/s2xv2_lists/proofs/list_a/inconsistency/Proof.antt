@@ -5,14 +5,14 @@ use borrow.Author.Needs.{needs}
 use Rattle.s2xv2_lists.proofs.list_a.inconsistency.Statement.{statement}
 use Rattle.s2xv2_lists.proofs.list_a.inconsistency.Tie as tie
 
+row-requires : tie.Need-row-requires
+row-requires c κs = search needs
+
 is-misnamed-requires : tie.Need-is-misnamed-requires
 is-misnamed-requires c κs = search needs
 
 u8-differs-requires : tie.Need-u8-differs-requires
 u8-differs-requires c κs = search needs
-
-has-scrambling-selector-requires : tie.Need-has-scrambling-selector-requires
-has-scrambling-selector-requires c κs = search needs
 
 bool-differs-requires : tie.Need-bool-differs-requires
 bool-differs-requires c κs = search needs
@@ -23,17 +23,11 @@ is-set-requires c κs = search needs
 u32-stray-requires : tie.Need-u32-stray-requires
 u32-stray-requires c κs = search needs
 
-has-timeslice-requires : tie.Need-has-timeslice-requires
-has-timeslice-requires c κs = search needs
-
 u8-differs-requires-2 : tie.Need-u8-differs-requires-2
 u8-differs-requires-2 c κs = search needs
 
 bonds-stray-requires : tie.Need-bonds-stray-requires
 bonds-stray-requires c κs = search needs
-
-has-superframe-requires : tie.Need-has-superframe-requires
-has-superframe-requires c κs = search needs
 
 superframe-differs-requires : tie.Need-superframe-differs-requires
 superframe-differs-requires c κs = search needs
@@ -53,38 +47,34 @@ first-from-requires c κs = search needs
 returns : tie.Need-returns
 unfolding inconsistency
 returns c =
-    let start = c .before .before .before .before .before .before in
+    let start = c .before .before .before .before .before in
     simp (
       c .first-from .ensures,
       c .before .before .plan-stray .ensures,
       c .before .before .before .sffi-stray .ensures,
       c .before .before .before .before .superframe-differs .ensures,
-      c .before .before .before .before .before .has-superframe .ensures,
       start .bonds-stray .ensures,
       start .before .u8-differs2 .ensures,
-      start .before .before .has-timeslice .ensures,
-      start .before .before .before .u32-stray .ensures,
-      start .before .before .before .before .is-set .ensures,
-      start .before .before .before .before .before .bool-differs .ensures,
-      start .before .before .before .before .before .before .has-scrambling-selector .ensures,
-      start .before .before .before .before .before .before .before .u8-differs .ensures,
-      start .before .before .before .before .before .before .before .before .is-misnamed .ensures,
+      start .before .before .u32-stray .ensures,
+      start .before .before .before .is-set .ensures,
+      start .before .before .before .before .bool-differs .ensures,
+      start .before .before .before .before .before .u8-differs .ensures,
+      start .before .before .before .before .before .before .is-misnamed .ensures,
+      start .before .before .before .before .before .before .before .row .ensures,
     )
 
 pub inconsistency-spec : {M : Type 1} → statement M
 inconsistency-spec =
     tie.close
     (tie.spec
+    row-requires
     is-misnamed-requires
     u8-differs-requires
-    has-scrambling-selector-requires
     bool-differs-requires
     is-set-requires
     u32-stray-requires
-    has-timeslice-requires
     u8-differs-requires-2
     bonds-stray-requires
-    has-superframe-requires
     superframe-differs-requires
     sffi-stray-requires
     plan-stray-requires

@@ -1,11 +1,36 @@
--- `s2xv2_reader::core::put_asked` meets its contract: the flags are those of the mode, and the test picks where the top bit of byte 6 goes.
+-- `s2xv2_reader::core::put_asked` meets its contract: the bytes of what is asked for are the flags of the mode, and the selector picks where the top bit of
+-- byte 6 goes.
 -- Assumes nothing.
-use mathlib.Core.Path.{sym, _∙_}
+use mathlib.Core.Path.{_≡_}
+use Prim.Native.Nat.{ℕ, _+_, _*_, _/_, _%_, _<_}
 use native.Mathlib.Omega.{arith}
 use lib.ListN.{length-set}
 use borrow.Author.Needs.{needs}
+use Rattle.wire.proofs.Flags.{is-bit, bit-small}
+use Rattle.s2xv2.specs.Table144c.{modeOf, hasSelector, hasTimeslice, hasSuperframe}
+use Rattle.s2xv2_plain.proofs.Reserved.{reserved-small}
 use Rattle.s2xv2_reader.proofs.core.put_asked.Statement.{statement}
 use Rattle.s2xv2_reader.proofs.core.put_asked.Tie as tie
+
+-- a word, as its four bytes
+module _ (w r s t f : ℕ) (e : w ≡ ((f * 256 + t) * 256 + s) * 256 + r) (hr : r < 2) (hs : s < 2) (ht : t < 2) (hf : f < 2) where
+  first : w % 256 ≡ r
+  first = omega arith
+
+  second : w / 256 % 256 ≡ s
+  second = omega arith
+
+  third : w / 65536 % 256 ≡ t
+  third = omega arith
+
+  fourth : w / 16777216 % 256 ≡ f
+  fourth = omega arith
+
+asked-requires : tie.Need-asked-requires
+asked-requires c κs = search needs
+
+cast-selector : tie.Need-cast-selector
+cast-selector c = search needs
 
 slice-write-b : tie.Need-slice-write-b
 slice-write-b c = search needs
@@ -13,109 +38,87 @@ slice-write-b c = search needs
 slice-write-b-2 : tie.Need-slice-write-b-2
 slice-write-b-2 c = search needs
 
-is-reserved-requires : tie.Need-is-reserved-requires
-is-reserved-requires c κs = search needs
+cast-b : tie.Need-cast-b
+cast-b c = search needs
 
 slice-write-b-3 : tie.Need-slice-write-b-3
 slice-write-b-3 c = search needs
 
-has-timeslice-requires : tie.Need-has-timeslice-requires
-has-timeslice-requires c κs = search needs
-
-bit-of-requires : tie.Need-bit-of-requires
-bit-of-requires c κs = search needs
+cast-b-2 : tie.Need-cast-b-2
+cast-b-2 c = search needs
 
 slice-write-b-4 : tie.Need-slice-write-b-4
 slice-write-b-4 c = search needs
 
-has-superframe-requires : tie.Need-has-superframe-requires
-has-superframe-requires c κs = search needs
-
-bit-of-requires-2 : tie.Need-bit-of-requires-2
-bit-of-requires-2 c κs = search needs
+cast-b-3 : tie.Need-cast-b-3
+cast-b-3 c = search needs
 
 slice-write-b-5 : tie.Need-slice-write-b-5
-slice-write-b-5 c = simp length-set (omega (arith, c .before .before .before .before .before .before .pre))
-
-has-selector-requires : tie.Need-has-selector-requires
-has-selector-requires c κs = search needs
+slice-write-b-5 c = simp length-set (omega (arith, c .before .before .pre))
 
 slice-write-b-6 : tie.Need-slice-write-b-6
-slice-write-b-6 c = simp length-set (omega (arith, c .before .before .before .before .before .before .before .before .pre))
+slice-write-b-6 c = simp length-set (omega (arith, c .before .before .pre))
+
+picked-requires : tie.Need-picked-requires
+picked-requires c κs = search needs
 
 slice-write-b-7 : tie.Need-slice-write-b-7
-slice-write-b-7 c = simp length-set (omega (arith, c .before .before .before .before .before .before .before .before .pre))
+slice-write-b-7 c = simp length-set (omega (arith, c .before .before .before .pre))
+
+picked-requires-2 : tie.Need-picked-requires-2
+picked-requires-2 c κs = search needs
 
 slice-write-b-8 : tie.Need-slice-write-b-8
-slice-write-b-8 c = simp length-set (omega (arith, c .before .before .before .before .before .before .before .before .pre))
+slice-write-b-8 c = simp length-set (omega (arith, c .before .before .before .before .pre))
+
+picked-requires-3 : tie.Need-picked-requires-3
+picked-requires-3 c κs = search needs
 
 slice-write-b-9 : tie.Need-slice-write-b-9
-slice-write-b-9 c = simp length-set (omega (arith, c .before .before .before .before .before .before .before .before .pre))
-
-slice-write-b-10 : tie.Need-slice-write-b-10
-slice-write-b-10 c = simp length-set (omega (arith, c .before .before .before .before .before .before .before .before .pre))
-
-slice-write-b-11 : tie.Need-slice-write-b-11
-slice-write-b-11 c = simp length-set (omega (arith, c .before .before .before .before .before .before .before .before .pre))
-
-slice-write-b-12 : tie.Need-slice-write-b-12
-slice-write-b-12 c = simp length-set (omega (arith, c .before .before .before .before .before .before .before .before .pre))
-
-slice-write-b-13 : tie.Need-slice-write-b-13
-slice-write-b-13 c = simp length-set (omega (arith, c .before .before .before .before .before .before .before .before .pre))
+slice-write-b-9 c = simp length-set (omega (arith, c .before .before .before .before .before .pre))
 
 same-length : tie.Need-same-length
 same-length c = simp length-set
 
 returns : tie.Need-returns
 returns c =
-    let d = sym (c .before .has-selector .ensures) ∙ c .if1 .taken in
-    rw d (simp (
-      c .before .before .bit-of2 .ensures .0,
-      c .before .before .before .has-superframe .ensures,
-      c .before .before .before .before .bit-of .ensures .0,
-      c .before .before .before .before .before .has-timeslice .ensures,
-      c .before .before .before .before .before .before .is-reserved .ensures,
-    ))
-
-same-length-2 : tie.Need-same-length-2
-same-length-2 c = simp length-set
-
-returns-2 : tie.Need-returns-2
-returns-2 c =
-    let d = sym (c .before .has-selector .ensures) ∙ c .if1 .left in
-    rw d (simp (
-      c .before .before .bit-of2 .ensures .0,
-      c .before .before .before .has-superframe .ensures,
-      c .before .before .before .before .bit-of .ensures .0,
-      c .before .before .before .before .before .has-timeslice .ensures,
-      c .before .before .before .before .before .before .is-reserved .ensures,
-    ))
+    let asked = c .before .before .before .asked in
+    let m = modeOf (c .before .before .before .before .before .args .m) in
+    let hr = reserved-small m in
+    let hs = bit-small (hasSelector m) in
+    let ht = bit-small (hasTimeslice m) in
+    let hf = bit-small (hasSuperframe m) in
+    simp (
+      c .picked3 .ensures,
+      c .before .picked2 .ensures,
+      c .before .before .picked .ensures,
+      first _ _ _ _ _ (asked .ensures) hr hs ht hf,
+      second _ _ _ _ _ (asked .ensures) hr hs ht hf,
+      third _ _ _ _ _ (asked .ensures) hr hs ht hf,
+      fourth _ _ _ _ _ (asked .ensures) hr hs ht hf,
+      is-bit,
+    )
 
 pub put-asked-spec : {M : Type 1} → statement M
 put-asked-spec =
     tie.close
     (tie.spec
+    asked-requires
+    cast-selector
     slice-write-b
     slice-write-b-2
-    is-reserved-requires
+    cast-b
     slice-write-b-3
-    has-timeslice-requires
-    bit-of-requires
+    cast-b-2
     slice-write-b-4
-    has-superframe-requires
-    bit-of-requires-2
+    cast-b-3
     slice-write-b-5
-    has-selector-requires
     slice-write-b-6
+    picked-requires
     slice-write-b-7
+    picked-requires-2
     slice-write-b-8
+    picked-requires-3
     slice-write-b-9
-    slice-write-b-10
-    slice-write-b-11
-    slice-write-b-12
-    slice-write-b-13
     same-length
-    returns
-    same-length-2
-    returns-2)
+    returns)
