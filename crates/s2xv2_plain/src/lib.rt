@@ -1,6 +1,5 @@
 // A record and an answer as plain numbers: what crosses to C and Rust, and what the reader and the writer work on.
 pub mod asked;
-pub mod clear;
 mod flags;
 pub mod input;
 pub mod output;

@@ -4,6 +4,7 @@ ghost use mathlib.Core.List.{[], _∷_};
 ghost use lib.ListN.{length, getD, take, drop};
 ghost use Rattle.wire.specs.Store.{storedFrom};
 ghost use Rattle.answers.specs.Answer.{numbers, told};
+ghost use Rattle.s2xv2.specs.Default.{defaultRecord};
 ghost use Rattle.s2xv2_plain.specs.Input.{meant};
 ghost use Rattle.s2xv2_plain.specs.Output.{answerOut, blockOf, numbersOf, bytesOf};
 use crate::flags::has_bool;
@@ -186,4 +187,13 @@ pub fn to_plain(r: S2Xv2SatelliteDeliverySystem) -> Plain
         numbers: numbers_of(r),
         bytes,
     }
+}
+
+// Stores the default record, which is zeros.
+pub fn clear(w: &mut [u32; 10], b: &mut [u8; 36])
+    ensures numbers { λ _. ⌜ now (w .exit) ≡ numbersOf defaultRecord ⌝ }
+    ensures bytes { λ _. ⌜ now (b .exit) ≡ bytesOf defaultRecord ⌝ }
+{
+    *w = [0u32; 10];
+    *b = [0u8; 36];
 }

@@ -12,9 +12,9 @@ use s2xv2::record::S2Xv2SatelliteDeliverySystem;
 use s2xv2_layout::ends::ends_of;
 use s2xv2_layout::missing::missing;
 use s2xv2_layout::present::present_in;
-use s2xv2_plain::clear::clear;
 use s2xv2_plain::input::of_plain;
 use s2xv2_plain::output::answer_out;
+use s2xv2_plain::output::clear;
 use s2xv2_plain::types::PlainAnswer;
 
 mod bytes;

@@ -19,8 +19,8 @@ use answers::answer::Answer;
 use answers::answer::Refusal;
 use form::envelope::STUFFING_TAG;
 use form::good::in_form;
-use s2xv2_plain::clear::clear;
 use s2xv2_plain::input::of_plain;
+use s2xv2_plain::output::clear;
 use s2xv2_plain::types::PlainPart;
 
 // The body of the first descriptor, which is one of ours.
