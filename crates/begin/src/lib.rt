@@ -6,19 +6,19 @@ ghost use lib.ListN.{replicate};
 ghost use Rattle.answers.specs.Answer.{numbers};
 ghost use Rattle.job.specs.Job.{jobOf, fitsIn};
 ghost use Rattle.s2xv2_plain.specs.Input.{meant};
-ghost use Rattle.s2xv2_plain.specs.Output.{answerOut};
+ghost use Rattle.answers.specs.Plain.{answerOut};
 ghost use Rattle.begin.specs.Begin.{Sized, noJob, fitTold, stageTold, begunSeen, answered, beginOf, beginPlain, sizesOf, stagedSize, Staged};
 use answers::answer::Answer;
 use answers::answer::Refusal;
+use answers::plain::PlainAnswer;
+use answers::plain::accepted;
+use answers::plain::answer_out;
 use form::envelope::EXTENSION;
 use form::envelope::TAG;
 use form::good::in_form;
 use job::job::Job;
 use s2xv2::record::S2Xv2SatelliteDeliverySystem;
 use s2xv2_plain::input::of_plain;
-use s2xv2_plain::output::accepted;
-use s2xv2_plain::output::answer_out;
-use s2xv2_plain::types::PlainAnswer;
 use s2xv2_writer::write_ready;
 
 // The answer, and the job: where begin is refused all of its bytes and numbers are 0, and step refuses it.

@@ -9,7 +9,7 @@ use Rattle.wire.specs.Flags.{when}
 use Rattle.answers.specs.Answer.{numberOf}
 use Rattle.s2xv2.specs.Read.{readTold, bodySize}
 use Rattle.slot.specs.Part.{noPart}
-use Rattle.s2xv2_plain.specs.declared.types.PlainPart.{PlainPart}
+use Rattle.answers.specs.declared.plain.PlainPart.{PlainPart}
 
 abbrev pub partIn : PlainPart → List ℕ → List ℕ
 partIn p s = take (p .length) (drop (p .place) s)

@@ -5,10 +5,11 @@ ghost use Rattle.s2xv2.specs.Read.{readOf, tailOf};
 ghost use Rattle.s2xv2.specs.Length.{lengthTold};
 ghost use Rattle.s2xv2.specs.Write.{writeTold, written};
 ghost use Rattle.capi.specs.Part.{tailPart, partIn};
-ghost use Rattle.s2xv2_plain.specs.Output.{answerOut, numbersOf, bytesOf};
+ghost use Rattle.answers.specs.Plain.{answerOut};
+ghost use Rattle.s2xv2_plain.specs.Output.{numbersOf, bytesOf};
 ghost use Rattle.s2xv2_plain.specs.Input.{meant};
-use s2xv2_plain::types::PlainAnswer;
-use s2xv2_plain::types::PlainPart;
+use answers::plain::PlainAnswer;
+use answers::plain::PlainPart;
 
 // `parse` of the library: the answer, whose first number is where the tail starts, and the record.
 #[no_mangle]

@@ -1,14 +1,14 @@
 // Beginning a job, and stepping it.
 ghost use mathlib.Core.Path.{_≡_};
 ghost use lib.ListN.{length};
-ghost use Rattle.s2xv2_plain.specs.Output.{answerOut};
+ghost use Rattle.answers.specs.Plain.{answerOut};
 ghost use Rattle.job.specs.Step.{stepTold, stepOf, slotAfter};
 ghost use Rattle.begin.specs.Begin.{beginPlain, sizesOf};
 ghost use Rattle.job.specs.Job.{jobOf};
 ghost use Rattle.capi.specs.Job.{numberIn, steppedOut, movedOut, SteppedInPlace};
+use answers::plain::PlainAnswer;
 use job::job::Job;
 use job::job::StepAnswer;
-use s2xv2_plain::types::PlainAnswer;
 use wire::field::bit_of;
 
 // What a step tells: how many stores it made, 0 or 8, and whether the job has none left, as a flag.

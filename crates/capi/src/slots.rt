@@ -5,13 +5,14 @@ ghost use lib.ListN.{length};
 ghost use Rattle.slot.specs.Answer.{slotTold};
 ghost use Rattle.slot.specs.Read.{shown};
 ghost use Rattle.slot.specs.Empty.{emptyTold, emptied};
-ghost use Rattle.s2xv2_plain.specs.Output.{answerOut, numbersOf, bytesOf};
+ghost use Rattle.answers.specs.Plain.{answerOut};
+ghost use Rattle.s2xv2_plain.specs.Output.{numbersOf, bytesOf};
 ghost use Rattle.slot.specs.Part.{slotPart};
 ghost use Rattle.capi.specs.Part.{partIn};
 use answers::answer::saturated;
-use s2xv2_plain::output::refusal_out;
-use s2xv2_plain::types::PlainAnswer;
-use s2xv2_plain::types::PlainPart;
+use answers::plain::PlainAnswer;
+use answers::plain::PlainPart;
+use answers::plain::refusal_out;
 use slot::answer::SlotAnswer;
 
 // Accepted with two numbers.

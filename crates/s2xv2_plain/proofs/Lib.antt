@@ -1,4 +1,3 @@
-pub mod Answers
 pub mod Back
 pub mod Absent
 pub mod Reserved

@@ -1,5 +1,4 @@
--- A record and an answer as plain numbers. Assumes nothing.
--- `answerOut`   of an answer's numbers
+-- A record as plain numbers. Assumes nothing.
 -- `isReserved`  of a mode, 1 for `Reserved` and 0 for any other
 -- `blockOf`     a superframe block, the default one where there is none
 -- `numbersOf`   the ten numbers of a record
@@ -8,7 +7,6 @@ use Prim.Native.Nat.{ℕ}
 use mathlib.Core.List.{List, [], _∷_}
 use lib.ListN.{getD}
 use Rattle.wire.specs.Flags.{bit}
-use Rattle.answers.specs.Answer.{saturated}
 use Rattle.answers.specs.Options.{isSomeBool, isSome8, isSome32, selected, orZero8, orZero32}
 use Rattle.s2xv2.specs.Table144c.{codeOf}
 use Rattle.s2xv2.specs.Default.{defaultSuperframe}
@@ -19,17 +17,6 @@ use Rattle.s2xv2.specs.declared.record.S2Xv2SatelliteDeliverySystem.{S2Xv2Satel
 use Rattle.s2xv2.specs.declared.superframe.S2Xv2Superframe.{S2Xv2Superframe}
 use Rattle.s2xv2.specs.declared.superframe.OptionSuperframe.{OptionSuperframe}
 use Rattle.s2xv2.specs.declared.superframe.OptionSuperframe.the-variants as OS
-use Rattle.s2xv2_plain.specs.declared.types.PlainAnswer.{PlainAnswer}
-
--- the number of an answer, and the first four numbers that it tells, 0 where it tells fewer; 65,535 stands for all above that
-abbrev pub answerOut : List ℕ → PlainAnswer
-answerOut told = record {
-  number = saturated (getD told 0 0);
-  first = saturated (getD told 1 0);
-  second = saturated (getD told 2 0);
-  third = saturated (getD told 3 0);
-  fourth = saturated (getD told 4 0);
-}
 
 abbrev pub isReserved : S2Xv2Mode → ℕ
 isReserved M.Reserved0 = 0

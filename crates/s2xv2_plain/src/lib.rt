@@ -1,4 +1,4 @@
-// A record and an answer as plain numbers: what crosses to C and Rust, and what the reader and the writer work on.
+// A record as plain numbers: what crosses to C and Rust, and what the reader and the writer work on.
 pub mod asked;
 mod flags;
 pub mod input;

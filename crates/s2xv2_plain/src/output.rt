@@ -1,12 +1,10 @@
-// From the library's types to plain numbers.
+// From a record to plain numbers.
 ghost use mathlib.Core.Path.{_≡_};
-ghost use mathlib.Core.List.{[], _∷_};
 ghost use lib.ListN.{length, getD, take, drop};
 ghost use Rattle.wire.specs.Store.{storedFrom};
-ghost use Rattle.answers.specs.Answer.{numbers, told};
 ghost use Rattle.s2xv2.specs.Default.{defaultRecord};
 ghost use Rattle.s2xv2_plain.specs.Input.{meant};
-ghost use Rattle.s2xv2_plain.specs.Output.{answerOut, blockOf, numbersOf, bytesOf};
+ghost use Rattle.s2xv2_plain.specs.Output.{blockOf, numbersOf, bytesOf};
 use crate::flags::has_bool;
 use crate::flags::has_superframe;
 use crate::flags::has_u8;
@@ -14,58 +12,10 @@ use crate::flags::has_u32;
 use crate::flags::is_reserved;
 use crate::places;
 use crate::types::Plain;
-use crate::types::PlainAnswer;
-use answers::answer::Answer;
-use answers::answer::Refusal;
-use answers::answer::saturated;
 use s2xv2::record::S2Xv2SatelliteDeliverySystem;
 use s2xv2::superframe::OptionSuperframe;
 use s2xv2::superframe::S2Xv2Superframe;
 use wire::field::bit_of;
-
-// Accepted, with a result that is small.
-pub fn accepted(result: u16) -> PlainAnswer
-    ensures { λ r. ⌜ r ≡ answerOut (0 ∷ result ∷ []) ⌝ }
-{
-    PlainAnswer {
-        number: 0,
-        first: result,
-        second: 0,
-        third: 0,
-        fourth: 0,
-    }
-}
-
-// A refusal: its number, and the numbers that it tells.
-pub fn refusal_out(why: Refusal) -> PlainAnswer
-    ensures { λ r. ⌜ r ≡ answerOut (numbers why) ⌝ }
-{
-    let told = why.told();
-    let numbers = told.numbers;
-    PlainAnswer {
-        number: saturated(numbers[0]),
-        first: saturated(numbers[1]),
-        second: saturated(numbers[2]),
-        third: saturated(numbers[3]),
-        fourth: 0,
-    }
-}
-
-// An answer: 0 with the result, or the refusal.
-pub fn answer_out(answer: Answer) -> PlainAnswer
-    ensures { λ r. ⌜ r ≡ answerOut (told answer) ⌝ }
-{
-    match answer {
-        Answer::Accepted(result) => PlainAnswer {
-            number: 0,
-            first: saturated(result),
-            second: 0,
-            third: 0,
-            fourth: 0,
-        },
-        Answer::Refused(why) => refusal_out(why),
-    }
-}
 
 // The block, or the default one where there is none.
 fn block_of(superframe: OptionSuperframe) -> S2Xv2Superframe

@@ -8,8 +8,9 @@ use Rattle.s2xv2.specs.Read.{Reading, readOf, tailOf}
 use Rattle.answers.specs.declared.answer.Answer.{Answer}
 use Rattle.s2xv2.specs.declared.record.S2Xv2SatelliteDeliverySystem.{S2Xv2SatelliteDeliverySystem}
 use Rattle.answers.proofs.Answers.{same-told}
-use Rattle.s2xv2_plain.specs.Output.{answerOut, numbersOf, bytesOf}
-use Rattle.s2xv2_plain.specs.declared.types.PlainAnswer.{PlainAnswer}
+use Rattle.answers.specs.Plain.{answerOut}
+use Rattle.s2xv2_plain.specs.Output.{numbersOf, bytesOf}
+use Rattle.answers.specs.declared.plain.PlainAnswer.{PlainAnswer}
 use Rattle.s2xv2_reader.specs.Seen.{seen, endIn}
 use Rattle.s2xv2_reader.specs.declared.Parsed.{Parsed}
 

@@ -2,20 +2,21 @@
 ghost use mathlib.Core.Path.{_≡_};
 ghost use Rattle.answers.specs.Answer.{told};
 ghost use Rattle.s2xv2.specs.Read.{readTold, readOf, tailOf};
-ghost use Rattle.s2xv2_plain.specs.Output.{answerOut, numbersOf, bytesOf};
+ghost use Rattle.answers.specs.Plain.{answerOut};
+ghost use Rattle.s2xv2_plain.specs.Output.{numbersOf, bytesOf};
 ghost use Rattle.s2xv2_reader.specs.Seen.{seen, endIn};
 use crate::whole::put_all;
 use answers::answer::Answer;
 use answers::answer::Refusal;
 use answers::answer::saturated;
+use answers::plain::PlainAnswer;
+use answers::plain::answer_out;
 use s2xv2::record::S2Xv2SatelliteDeliverySystem;
 use s2xv2_layout::ends::ends_of;
 use s2xv2_layout::missing::missing;
 use s2xv2_layout::present::present_in;
 use s2xv2_plain::input::of_plain;
-use s2xv2_plain::output::answer_out;
 use s2xv2_plain::output::clear;
-use s2xv2_plain::types::PlainAnswer;
 
 mod bytes;
 mod core;

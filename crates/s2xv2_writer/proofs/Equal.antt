@@ -9,8 +9,8 @@ use Rattle.answers.specs.declared.answer.Answer.{Answer}
 use Rattle.s2xv2.specs.declared.record.S2Xv2SatelliteDeliverySystem.{S2Xv2SatelliteDeliverySystem}
 use Rattle.answers.proofs.Answers.{same-told}
 use Rattle.s2xv2_plain.specs.Input.{meant}
-use Rattle.s2xv2_plain.specs.Output.{answerOut}
-use Rattle.s2xv2_plain.specs.declared.types.PlainAnswer.{PlainAnswer}
+use Rattle.answers.specs.Plain.{answerOut}
+use Rattle.answers.specs.declared.plain.PlainAnswer.{PlainAnswer}
 
 module _ (r : S2Xv2SatelliteDeliverySystem) (tail : List ℕ) where
   -- Two answers of `serialize_into` for the same record, tail and room are equal, and so are two buffers that it may leave of one.

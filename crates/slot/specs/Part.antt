@@ -8,7 +8,7 @@ use lib.ListN.{getD}
 use lib.Dec.{eqb}
 use Rattle.wire.specs.Flags.{when}
 use Rattle.answers.specs.Answer.{numberOf}
-use Rattle.s2xv2_plain.specs.declared.types.PlainPart.{PlainPart}
+use Rattle.answers.specs.declared.plain.PlainPart.{PlainPart}
 use Rattle.slot.specs.Read.{shown}
 
 abbrev pub noPart : PlainPart

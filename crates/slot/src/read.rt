@@ -17,11 +17,11 @@ use crate::answer::SlotAnswer;
 use crate::answer::SlotRead;
 use answers::answer::Answer;
 use answers::answer::Refusal;
+use answers::plain::PlainPart;
 use form::envelope::STUFFING_TAG;
 use form::good::in_form;
 use s2xv2_plain::input::of_plain;
 use s2xv2_plain::output::clear;
-use s2xv2_plain::types::PlainPart;
 
 // The body of the first descriptor, which is one of ours.
 fn body_in(slot: &[u8]) -> &[u8]

@@ -4,8 +4,8 @@ use mathlib.Core.Path.{_≡_, sym, ap, _∙_}
 use native.Mathlib.Omega.{arith}
 use denote.Ref.{now}
 use Rattle.s2xv2_plain.specs.Input.{meant}
-use Rattle.s2xv2_plain.specs.Output.{answerOut}
-use Rattle.s2xv2_plain.specs.declared.types.PlainAnswer.{PlainAnswer}
+use Rattle.answers.specs.Plain.{answerOut}
+use Rattle.answers.specs.declared.plain.PlainAnswer.{PlainAnswer}
 use Rattle.form.proofs.GoodForm.{form-size}
 use Rattle.begin.specs.Begin.{Begins, sizesOf}
 use Rattle.begin.proofs.Staging.{begun}

@@ -1,7 +1,7 @@
 -- `s2xv2_measure::measured` meets its contract: the record that is handed over is the one that is meant.
 -- Assumes nothing.
 use mathlib.Core.Path.{ap, _∙_}
-use Rattle.s2xv2_plain.specs.Output.{answerOut}
+use Rattle.answers.specs.Plain.{answerOut}
 use borrow.Author.Needs.{needs}
 use Rattle.s2xv2_measure.proofs.measured.Statement.{statement}
 use Rattle.s2xv2_measure.proofs.measured.Tie as tie

@@ -5,7 +5,7 @@ use native.Mathlib.Omega.{arith}
 use denote.Ref.{now}
 use Rattle.s2xv2.specs.Encode.{encodedLength}
 use Rattle.s2xv2_plain.specs.Input.{meant}
-use Rattle.s2xv2_plain.specs.Output.{answerOut}
+use Rattle.answers.specs.Plain.{answerOut}
 use Rattle.s2xv2_measure.proofs.Accepted.{ready-length}
 use Rattle.s2xv2_measure.proofs.Checked.{counted}
 use borrow.Author.Needs.{needs}

@@ -2,7 +2,7 @@
 -- Assumes nothing.
 use mathlib.Core.Path.{ap, _∙_}
 use denote.Ref.{now}
-use Rattle.s2xv2_plain.specs.Output.{answerOut}
+use Rattle.answers.specs.Plain.{answerOut}
 use Rattle.s2xv2_reader.proofs.Shown.{tells-end}
 use borrow.Author.Needs.{needs}
 use Rattle.s2xv2_reader.proofs.parse_into.Statement.{statement}

@@ -4,7 +4,7 @@ use mathlib.Core.Path.{sym, ap, _∙_}
 use native.Mathlib.Omega.{arith}
 use denote.Ref.{now}
 use Rattle.s2xv2_plain.specs.Input.{meant}
-use Rattle.s2xv2_plain.specs.Output.{answerOut}
+use Rattle.answers.specs.Plain.{answerOut}
 use Rattle.s2xv2_writer.proofs.Ready.{ready-clear, ready-wrote}
 use borrow.Author.Needs.{needs}
 use Rattle.s2xv2_writer.proofs.serialize_plain.Statement.{statement}

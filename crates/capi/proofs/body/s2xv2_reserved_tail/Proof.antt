@@ -3,7 +3,7 @@
 use mathlib.Core.Path.{_≡_, sym, ap, _∙_}
 use Prim.Native.Nat.{_-_}
 use lib.ListN.{length}
-use Rattle.s2xv2_plain.specs.declared.types.PlainPart.{PlainPart}
+use Rattle.answers.specs.declared.plain.PlainPart.{PlainPart}
 use denote.Ref.{now}
 use Rattle.s2xv2.proofs.Reach.{accepted-tail}
 use Rattle.s2xv2_reader.proofs.Shown.{tells-end, tells-none}

@@ -1,7 +1,7 @@
 -- `capi::slots::s2xv2_raw_slot_read` meets its contract: the answer crosses, and the record stands in the arrays.
 -- Assumes nothing.
 use mathlib.Core.Path.{ap, _∙_}
-use Rattle.s2xv2_plain.specs.Output.{answerOut}
+use Rattle.answers.specs.Plain.{answerOut}
 use borrow.Author.Needs.{needs}
 use Rattle.capi.proofs.slots.s2xv2_raw_slot_read.Statement.{statement}
 use Rattle.capi.proofs.slots.s2xv2_raw_slot_read.Tie as tie

@@ -2,7 +2,7 @@
 -- Assumes nothing.
 use mathlib.Core.Path.{ap, _∙_}
 use denote.Ref.{now}
-use Rattle.s2xv2_plain.specs.declared.types.PlainPart.{PlainPart}
+use Rattle.answers.specs.declared.plain.PlainPart.{PlainPart}
 use Rattle.capi.specs.Part.{partIn}
 use Rattle.capi.proofs.Part.{cut-slot}
 use borrow.Author.Needs.{needs}

@@ -1,8 +1,8 @@
--- `s2xv2_plain::output::answer_out` meets its contract: the arm says what is told.
+-- `answers::plain::answer_out` meets its contract: the arm says what is told.
 -- Assumes nothing.
 use borrow.Author.Needs.{needs}
-use Rattle.s2xv2_plain.proofs.output.answer_out.Statement.{statement}
-use Rattle.s2xv2_plain.proofs.output.answer_out.Tie as tie
+use Rattle.answers.proofs.plain.answer_out.Statement.{statement}
+use Rattle.answers.proofs.plain.answer_out.Tie as tie
 
 enum-known-answer : tie.Need-enum-known-answer
 enum-known-answer c = search needs

@@ -1,9 +1,9 @@
--- `s2xv2_plain::output::refusal_out` meets its contract: each number is told as the definition tells it, and there is no fourth.
+-- `answers::plain::refusal_out` meets its contract: each number is told as the definition tells it, and there is no fourth.
 -- Assumes nothing.
-use Rattle.s2xv2_plain.proofs.Answers.{no-fourth}
+use Rattle.answers.proofs.Crossing.{no-fourth}
 use borrow.Author.Needs.{needs}
-use Rattle.s2xv2_plain.proofs.output.refusal_out.Statement.{statement}
-use Rattle.s2xv2_plain.proofs.output.refusal_out.Tie as tie
+use Rattle.answers.proofs.plain.refusal_out.Statement.{statement}
+use Rattle.answers.proofs.plain.refusal_out.Tie as tie
 
 told-requires : tie.Need-told-requires
 told-requires c κs = search needs
