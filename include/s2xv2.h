@@ -22,7 +22,7 @@ extern "C" {
 /* The version of this header, and as one number. An archive is for a header of the same version: s2xv2_version() tells
    the version that was linked. */
 #define S2XV2_VERSION_MAJOR 0
-#define S2XV2_VERSION_MINOR 2
+#define S2XV2_VERSION_MINOR 3
 #define S2XV2_VERSION_PATCH 0
 #define S2XV2_VERSION (S2XV2_VERSION_MAJOR * 65536 + S2XV2_VERSION_MINOR * 256 + S2XV2_VERSION_PATCH)
 
@@ -40,7 +40,8 @@ enum {
 /* The number of an answer. What it tells stands in `first` to `fourth`, with 0 where it tells less. */
 enum {
     S2XV2_ACCEPTED = 0,     /* first: the result */
-    S2XV2_SHORT = 1,        /* first: the place of the missing part, second: where it ends, third: the body's length */
+    S2XV2_SHORT = 1,        /* first: the place of the missing part, second: where it ends, third: the body's length,
+                               fourth: how long the whole body is at the least */
     S2XV2_LONG = 2,         /* first: the length, 65,535 for all above that */
     S2XV2_INCONSISTENT = 3, /* first: the first place of list A that holds */
     S2XV2_FIELD = 4,        /* first: the first place of list B that holds */
@@ -103,7 +104,8 @@ enum {
     S2XV2_FIELD_POSTAMBLE_PLI = 22
 };
 
-/* An answer: its number, and what it tells. */
+/* An answer: its number, and what it tells. The header of 0.1.0 has no `fourth`: a caller that was built against it has
+   to be built again. */
 typedef struct {
     uint16_t number;
     uint16_t first;

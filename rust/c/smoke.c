@@ -1,6 +1,6 @@
-/* Calls each function of s2xv2.h with what it accepts and with what it refuses: bodies of every shape, with each field read by its name and
-   written from it; flags and codes from 0 to 255, anything behind a flag that says absent, null pointers of length 0, lengths that no bytes
-   have, and forged jobs. As C11 and as C++. Says what is wrong, and ends with 1 then. */
+/* Calls each function of s2xv2.h with what it accepts and with what it refuses: bodies of every shape, whole and cut, with each field read by
+   its name and written from it; flags and codes from 0 to 255, anything behind a flag that says absent, null pointers of length 0, lengths
+   that no bytes have, and forged jobs. As C11 and as C++. Says what is wrong, and ends with 1 then. */
 #include "s2xv2.h"
 
 #include <stdio.h>
@@ -94,8 +94,14 @@ static void check(int holds, const char *what, int line) {
 }
 #define CHECK(holds) check((holds), #holds, __LINE__)
 
+/* An answer that tells up to three numbers: the fourth is 0. */
 static int told(S2xv2Answer answer, size_t number, size_t first, size_t second, size_t third) {
     return answer.number == number && answer.first == first && answer.second == second && answer.third == third && answer.fourth == 0;
+}
+
+/* The one that tells four: how long the whole body is at the least comes last. */
+static int told_short(S2xv2Answer answer, size_t place, size_t need, size_t have, size_t least) {
+    return answer.number == S2XV2_SHORT && answer.first == place && answer.second == need && answer.third == have && answer.fourth == least;
 }
 
 static int same_answer(S2xv2Answer a, S2xv2Answer b) {
@@ -385,8 +391,11 @@ static void shapes(void) {
         stored(&record, &body, 64);
         stored(&record, &body, body.length + 5);
         for (cut = 0; cut < body.length; cut++) {
+            S2xv2Answer answer;
             read = unread();
-            CHECK(s2xv2_parse(body.bytes, cut, &read).number == S2XV2_SHORT && all(&read, sizeof read, 0));
+            answer = s2xv2_parse(body.bytes, cut, &read);
+            CHECK(answer.number == S2XV2_SHORT && all(&read, sizeof read, 0));
+            CHECK(answer.third == cut && cut < answer.second && answer.second <= answer.fourth && answer.fourth <= body.length);
         }
     }
 }
@@ -404,7 +413,7 @@ static void reading(void) {
 
     body[4] = 0x20;
     record = unread();
-    CHECK(told(s2xv2_parse(body, 18, &record), S2XV2_SHORT, 4, 19, 18) && all(&record, sizeof record, 0));
+    CHECK(told_short(s2xv2_parse(body, 18, &record), 4, 19, 18, 19) && all(&record, sizeof record, 0));
     part = s2xv2_reserved_tail(body, 18);
     CHECK(part.place == 0 && part.length == 0);
     CHECK(told(parsed(body, 4096), S2XV2_ACCEPTED, 19, 0, 0));
@@ -412,9 +421,54 @@ static void reading(void) {
     CHECK(told(s2xv2_parse(body, 4097, &record), S2XV2_LONG, 4097, 0, 0) && all(&record, sizeof record, 0));
 
     record = unread();
-    CHECK(told(s2xv2_parse(NULL, 0, &record), S2XV2_SHORT, 1, 18, 0) && all(&record, sizeof record, 0));
+    CHECK(told_short(s2xv2_parse(NULL, 0, &record), 1, 18, 0, 18) && all(&record, sizeof record, 0));
     part = s2xv2_reserved_tail(NULL, 0);
     CHECK(part.place == 0 && part.length == 0);
+}
+
+/* Bodies that end inside a part: the length, bytes 4, 5, 6, 18 and 19, of which those below the length are there, and what is told. In a
+   slot it is told as of the body by itself, and what stands behind the body is not looked at. */
+static void cuts(void) {
+    static const struct {
+        uint8_t length, set[5], place, need, least;
+    } rows[] = {
+        {0, {0, 0, 0, 0, 0}, 1, 18, 18},
+        {17, {0x50, 0, 0, 0, 0}, 1, 18, 18},
+        {18, {0x08, 0, 0, 0, 0}, 2, 19, 19},
+        {20, {0x10, 0, 0x80, 0, 0}, 3, 21, 21},
+        {18, {0x20, 0, 0, 0, 0}, 4, 19, 19},
+        {18, {0x50, 0, 0, 0, 0}, 4, 19, 27},
+        {18, {0, 0x04, 0, 0, 0}, 5, 19, 23},
+        {19, {0, 0x04, 0, 0x01, 0}, 6, 23, 27},
+        {23, {0, 0x04, 0, 0x01, 0}, 6, 27, 27},
+        {18, {0x58, 0x04, 0, 0, 0}, 2, 19, 33},
+        {25, {0x40, 0, 0, 0, 0}, 7, 26, 26},
+        {25, {0x40, 0, 0, 0, 0x40}, 7, 26, 26},
+        {26, {0x40, 0, 0, 0, 0x40}, 8, 29, 30},
+        {29, {0x40, 0, 0, 0, 0x40}, 9, 30, 30},
+    };
+    static const size_t at[5] = {4, 5, 6, 18, 19};
+    size_t row, k;
+    for (row = 0; row < sizeof rows / sizeof rows[0]; row++) {
+        const size_t length = rows[row].length;
+        uint8_t slot[64];
+        S2xv2Record record = unread();
+        memset(slot, 0, sizeof slot);
+        for (k = 0; k < 5; k++) {
+            slot[3 + at[k]] = rows[row].set[k];
+        }
+        memset(slot + 3 + length, 0xFF, sizeof slot - 3 - length);
+        slot[0] = S2XV2_TAG;
+        slot[1] = (uint8_t)(length + 1);
+        slot[2] = S2XV2_TAG_EXTENSION;
+        slot[3 + length] = S2XV2_STUFFING_TAG;
+        slot[4 + length] = (uint8_t)(59 - length);
+        CHECK(told_short(s2xv2_parse(slot + 3, length, &record), rows[row].place, rows[row].need, length, rows[row].least));
+        CHECK(all(&record, sizeof record, 0));
+        record = unread();
+        CHECK(told_short(s2xv2_slot_read(slot, sizeof slot, &record), rows[row].place, rows[row].need, length, rows[row].least));
+        CHECK(all(&record, sizeof record, 0));
+    }
 }
 
 static void writing(void) {
@@ -770,7 +824,7 @@ static void slots(void) {
     slot[3] = 0x42;
     slot[4] = 18;
     record = unread();
-    CHECK(told(s2xv2_slot_read(slot, 23, &record), S2XV2_SHORT, 1, 18, 0) && all(&record, sizeof record, 0));
+    CHECK(told_short(s2xv2_slot_read(slot, 23, &record), 1, 18, 0, 18) && all(&record, sizeof record, 0));
 }
 
 static void begins(void) {
@@ -906,30 +960,30 @@ static size_t with_parts_length(uint8_t mode) {
     return 28 + (mode == 1 || mode == 2 ? 3 : 0) + (mode == 2 || mode == 5 ? 1 : 0) + (mode == 4 || mode == 5 ? 12 : 0);
 }
 
-/* A body of a mode that is cut anywhere below `end`, and not below `start`, misses this part. */
-static void misses(uint8_t mode, size_t start, size_t end, size_t place) {
+/* A body of a mode that is cut anywhere below `end`, and not below `start`, misses this part, and has so many bytes at the least. */
+static void misses(uint8_t mode, size_t start, size_t end, size_t place, size_t least) {
     uint8_t body[64];
     S2xv2Record record = with_parts(mode);
     CHECK(s2xv2_serialize_into(&record, 0, 0, body, sizeof body).number == S2XV2_ACCEPTED);
     for (; start < end; start++) {
-        CHECK(told(s2xv2_parse(body, start, &record), S2XV2_SHORT, place, end, start));
+        CHECK(told_short(s2xv2_parse(body, start, &record), place, end, start, least));
     }
 }
 
 /* Each place has the name of its part or its field. */
 static void names_of_places(void) {
     uint8_t buffer[64];
-    misses(5, 0, 18, S2XV2_SHORT_CORE);
-    misses(5, 18, 19, S2XV2_SHORT_INPUT_STREAM_IDENTIFIER);
-    misses(2, 19, 22, S2XV2_SHORT_SCRAMBLING);
-    misses(2, 22, 23, S2XV2_SHORT_TIMESLICE_NUMBER);
-    misses(5, 19, 20, S2XV2_SHORT_TIMESLICE_NUMBER);
-    misses(5, 20, 21, S2XV2_SHORT_BOND_HEADER);
-    misses(5, 21, 25, S2XV2_SHORT_SECONDARY_ID);
-    misses(5, 25, 29, S2XV2_SHORT_SECONDARY_ID);
-    misses(5, 29, 37, S2XV2_SHORT_SUPERFRAME);
-    misses(5, 37, 40, S2XV2_SHORT_BEAMHOPPING_TIME_PLAN_ID);
-    misses(5, 40, 41, S2XV2_SHORT_LAST_BYTE);
+    misses(5, 0, 18, S2XV2_SHORT_CORE, 18);
+    misses(5, 18, 19, S2XV2_SHORT_INPUT_STREAM_IDENTIFIER, 33);
+    misses(2, 19, 22, S2XV2_SHORT_SCRAMBLING, 28);
+    misses(2, 22, 23, S2XV2_SHORT_TIMESLICE_NUMBER, 28);
+    misses(5, 19, 20, S2XV2_SHORT_TIMESLICE_NUMBER, 33);
+    misses(5, 20, 21, S2XV2_SHORT_BOND_HEADER, 33);
+    misses(5, 21, 25, S2XV2_SHORT_SECONDARY_ID, 37);
+    misses(5, 25, 29, S2XV2_SHORT_SECONDARY_ID, 37);
+    misses(5, 29, 37, S2XV2_SHORT_SUPERFRAME, 37);
+    misses(5, 37, 40, S2XV2_SHORT_BEAMHOPPING_TIME_PLAN_ID, 41);
+    misses(5, 40, 41, S2XV2_SHORT_LAST_BYTE, 41);
 
     TELLS(0, mode_is_reserved, 1, S2XV2_INCONSISTENT, S2XV2_INCONSISTENT_S2XV2_MODE);
     TELLS(0, has_input_stream_identifier, 0, S2XV2_INCONSISTENT, S2XV2_INCONSISTENT_INPUT_STREAM_IDENTIFIER);
@@ -982,6 +1036,7 @@ int main(void) {
     vectors();
     shapes();
     reading();
+    cuts();
     writing();
     flags();
     turned();

@@ -1,5 +1,5 @@
 -- The numbers of an answer lose nothing: `refusalOf` and `answerOf` give it back. So two answers with the same numbers are equal.
--- A refusal's numbers do not start with 0, and there are four at most.
+-- A refusal's numbers do not start with 0, and there are five at most.
 -- Assumes nothing.
 use mathlib.Core.Path.{_≡_, refl, sym, ap, _∙_}
 use mathlib.Core.List.{List}
@@ -17,11 +17,11 @@ use Rattle.answers.specs.declared.answer.Answer.{Answer}
 use Rattle.answers.specs.declared.answer.Answer.the-variants as A
 
 pub refusalOf : List ℕ → Refusal
-refusalOf l = go (getD l 0 0) (getD l 1 0) (getD l 2 0) (getD l 3 0)
+refusalOf l = go (getD l 0 0) (getD l 1 0) (getD l 2 0) (getD l 3 0) (getD l 4 0)
   where
-    go : ℕ → ℕ → ℕ → ℕ → Refusal
-    go n x y z =
-        when (eqb n 1) (R.Short x y z)
+    go : ℕ → ℕ → ℕ → ℕ → ℕ → Refusal
+    go n x y z v =
+        when (eqb n 1) (R.Short x y z v)
         (when (eqb n 2) (R.Long x)
         (when (eqb n 3) (R.Inconsistent x)
         (when (eqb n 4) (R.Field x)
@@ -29,7 +29,7 @@ refusalOf l = go (getD l 0 0) (getD l 1 0) (getD l 2 0) (getD l 3 0)
 
 pub refusal-back : (why : Refusal) → refusalOf (numbers why) ≡ why
 unfolding refusalOf
-refusal-back (R.Short place need have) = refl
+refusal-back (R.Short place need have least) = refl
 refusal-back (R.Long n) = refl
 refusal-back (R.Inconsistent place) = refl
 refusal-back (R.Field place) = refl
@@ -38,7 +38,7 @@ refusal-back R.Slot = refl
 refusal-back (R.NoFit size) = refl
 
 pub refused-number : (why : Refusal) → eqb (numberOf (numbers why)) 0 ≡ false
-refused-number (R.Short place need have) = refl
+refused-number (R.Short place need have least) = refl
 refused-number (R.Long n) = refl
 refused-number (R.Inconsistent place) = refl
 refused-number (R.Field place) = refl
@@ -61,9 +61,9 @@ answer-back (A.Refused why) = rw (refused-number why, refusal-back why)
 pub same-told : (a b : Answer) → told a ≡ told b → a ≡ b
 same-told a b e = sym (answer-back a) ∙ ap answerOf e ∙ answer-back b
 
--- A refusal tells four numbers at most, so that an array of four has them all.
+-- A refusal tells five numbers at most, so that an array of five has them all.
 pub all-told : (why : Refusal) → take (length (numbers why)) (toldNow (numbers why) .numbers) ≡ numbers why
-all-told (R.Short place need have) = refl
+all-told (R.Short place need have least) = refl
 all-told (R.Long n) = refl
 all-told (R.Inconsistent place) = refl
 all-told (R.Field place) = refl
@@ -71,5 +71,5 @@ all-told (R.Room need have) = refl
 all-told R.Slot = refl
 all-told (R.NoFit size) = refl
 
-pub few-told : (why : Refusal) → length (numbers why) ≤ 4
+pub few-told : (why : Refusal) → length (numbers why) ≤ 5
 few-told why = omega (arith, ap length (all-told why), length-take (length (numbers why)) (toldNow (numbers why) .numbers))

@@ -17,7 +17,7 @@ use Rattle.answers.specs.declared.answer.Answer.the-variants as A
 use Rattle.answers.specs.declared.answer.Told.{Told}
 
 abbrev pub numbers : Refusal → List ℕ
-numbers (R.Short place need have) = 1 ∷ place ∷ need ∷ have ∷ []
+numbers (R.Short place need have least) = 1 ∷ place ∷ need ∷ have ∷ least ∷ []
 numbers (R.Long length) = 2 ∷ length ∷ []
 numbers (R.Inconsistent place) = 3 ∷ place ∷ []
 numbers (R.Field place) = 4 ∷ place ∷ []
@@ -37,6 +37,6 @@ numberOf told = getD told 0 0
 abbrev pub saturated : ℕ → ℕ
 saturated n = when (ltb 65535 n) 65535 n
 
--- four numbers, 0 where there are fewer
+-- five numbers, 0 where there are fewer
 abbrev pub toldNow : List ℕ → Told
-toldNow l = record { count = length l; numbers = getD l 0 0 ∷ getD l 1 0 ∷ getD l 2 0 ∷ getD l 3 0 ∷ [] }
+toldNow l = record { count = length l; numbers = getD l 0 0 ∷ getD l 1 0 ∷ getD l 2 0 ∷ getD l 3 0 ∷ getD l 4 0 ∷ [] }

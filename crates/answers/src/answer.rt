@@ -4,20 +4,36 @@ ghost use Rattle.answers.specs.Answer.{numbers, saturated, toldNow};
 
 // Why a call was refused: answers 1 to 7. A step has an answer of its own, which has number 8.
 pub enum Refusal {
-    // The body ends inside a part: which one, where that part ends, and how long the body is.
-    Short { place: u8, need: usize, have: usize },
+    // The body ends inside a part: which one, where that part ends, how long the body is, and how long the whole has to be at the least.
+    Short {
+        place: u8,
+        need: usize,
+        have: usize,
+        least: usize,
+    },
     // A body or an encoding of more than 4,096 bytes: its length, or 65,535 where it is above that.
-    Long { length: u16 },
+    Long {
+        length: u16,
+    },
     // A record that contradicts itself: the first place of list A.
-    Inconsistent { place: u8 },
+    Inconsistent {
+        place: u8,
+    },
     // A value that the wire cannot carry: the first place of list B.
-    Field { place: u8 },
+    Field {
+        place: u8,
+    },
     // An output buffer below the length: the length, and the buffer's.
-    Room { need: usize, have: usize },
+    Room {
+        need: usize,
+        have: usize,
+    },
     // A slot of a wrong size or form.
     Slot,
     // A descriptor that is larger than the slot, or exactly one byte smaller: its size.
-    NoFit { size: usize },
+    NoFit {
+        size: usize,
+    },
 }
 
 // The answer of a call whose result is a number: where the tail starts, or a length.
@@ -29,7 +45,7 @@ pub enum Answer {
 // The numbers that a refusal tells, its own first: how many there are, and these, with 0 behind them.
 pub struct Told {
     pub count: usize,
-    pub numbers: [usize; 4],
+    pub numbers: [usize; 5],
 }
 
 impl Refusal {
@@ -38,33 +54,38 @@ impl Refusal {
         ensures { λ r. ⌜ r ≡ toldNow (numbers self) ⌝ }
     {
         match self {
-            Refusal::Short { place, need, have } => Told {
-                count: 4,
-                numbers: [1, place as usize, need, have],
+            Refusal::Short {
+                place,
+                need,
+                have,
+                least,
+            } => Told {
+                count: 5,
+                numbers: [1, place as usize, need, have, least],
             },
             Refusal::Long { length } => Told {
                 count: 2,
-                numbers: [2, length as usize, 0, 0],
+                numbers: [2, length as usize, 0, 0, 0],
             },
             Refusal::Inconsistent { place } => Told {
                 count: 2,
-                numbers: [3, place as usize, 0, 0],
+                numbers: [3, place as usize, 0, 0, 0],
             },
             Refusal::Field { place } => Told {
                 count: 2,
-                numbers: [4, place as usize, 0, 0],
+                numbers: [4, place as usize, 0, 0, 0],
             },
             Refusal::Room { need, have } => Told {
                 count: 3,
-                numbers: [5, need, have, 0],
+                numbers: [5, need, have, 0, 0],
             },
             Refusal::Slot => Told {
                 count: 1,
-                numbers: [6, 0, 0, 0],
+                numbers: [6, 0, 0, 0, 0],
             },
             Refusal::NoFit { size } => Told {
                 count: 2,
-                numbers: [7, size, 0, 0],
+                numbers: [7, size, 0, 0, 0],
             },
         }
     }

@@ -48,7 +48,7 @@ pub fn refusal_out(why: Refusal) -> PlainAnswer
         first: saturated(numbers[1]),
         second: saturated(numbers[2]),
         third: saturated(numbers[3]),
-        fourth: 0,
+        fourth: saturated(numbers[4]),
     }
 }
 

@@ -8,7 +8,7 @@ use lib.ListN.{length}
 use Rattle.s2xv2.specs.declared.record.S2Xv2SatelliteDeliverySystem.{S2Xv2SatelliteDeliverySystem}
 use Rattle.s2xv2.specs.Default.{defaultRecord}
 use Rattle.s2xv2.specs.Encode.{encode, encodedLength, partsOf, byteParts, scramblingParts, bondParts, superframeParts}
-use Rattle.s2xv2.specs.Read.{readTold, presentIn, bodySize, recordAt, superframeAt}
+use Rattle.s2xv2.specs.Read.{readTold, presentIn, bodySize, leastTotal, recordAt, superframeAt}
 use Rattle.s2xv2.specs.Table144c.{modeOf}
 use Rattle.s2xv2.specs.ListA.{inconsistency}
 use Rattle.s2xv2.specs.ListB.{unwritable}
@@ -38,7 +38,7 @@ slotTable =
 
 -- Every row of the whole table, bodies and slots, is right.
 pub cases : right (table ++ slotTable) ≡ true
-unfolding beginTold fitTold stageTold beginOf stepOf fair fitsIn goodForm goodSize goodFirst goodRest stuffing defaultRecord encode encodedLength partsOf byteParts scramblingParts bondParts superframeParts inconsistency unwritable readTold presentIn bodySize recordAt superframeAt modeOf writeTold
+unfolding beginTold fitTold stageTold beginOf stepOf fair fitsIn goodForm goodSize goodFirst goodRest stuffing defaultRecord encode encodedLength partsOf byteParts scramblingParts bondParts superframeParts inconsistency unwritable readTold presentIn bodySize leastTotal recordAt superframeAt modeOf writeTold
 cases = refl
 
 -- The two rows hold of every slot in good form and every record with a body of 18 bytes that lists A and B pass.

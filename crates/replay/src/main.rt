@@ -40,7 +40,7 @@ fn cell_of(ran: u64) -> usize {
 }
 
 // Prints a case with a name: its number, its answer, its digest.
-fn print_named(kind: &[u8], k: u32, t: &[u32; 5], ran: u64) {
+fn print_named(kind: &[u8], k: u32, t: &[u32; 6], ran: u64) {
     word(kind, k % 64 + 1);
     io::write_all(1, b":");
     told::print(t);
@@ -65,7 +65,7 @@ fn named_record(k: u32, out: &mut [u8], tail: &[u8]) {
 // Runs the cases with a name.
 fn named_cases(body: &mut [u8], out: &mut [u8], tail: &[u8]) {
     let mut k = 0;
-    while k < 22 {
+    while k < 28 {
         named_body(k, body, out);
         k += 1;
     }

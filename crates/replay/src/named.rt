@@ -5,7 +5,7 @@ use crate::values::plain;
 use lines::put::put;
 
 // A body's length, and places and bytes of it that are not 0; a row ends with places 0.
-const BODIES: [[u16; 9]; 22] = [
+const BODIES: [[u16; 9]; 28] = [
     // The rows of the table, in its order.
     [0, 0, 0, 0, 0, 0, 0, 0, 0], // 1: no byte
     [18, 0, 0, 0, 0, 0, 0, 0, 0], // 2: the core
@@ -31,6 +31,13 @@ const BODIES: [[u16; 9]; 22] = [
     [40, 4, 88, 5, 4, 20, 1, 30, 64], // 20: the same, cut
     [4096, 0, 0, 0, 0, 0, 0, 0, 0], // 21: the longest
     [4097, 0, 0, 0, 0, 0, 0, 0, 0], // 22: too long
+    // What the least total counts of a body that is cut.
+    [17, 4, 80, 0, 0, 0, 0, 0, 0], // 23: a core cut, whatever it says
+    [18, 4, 80, 0, 0, 0, 0, 0, 0], // 24: no timeslice, and a block behind it
+    [18, 5, 4, 0, 0, 0, 0, 0, 0], // 25: no bond header: one id
+    [19, 5, 4, 18, 1, 0, 0, 0, 0], // 26: a bond header alone: two ids
+    [18, 4, 88, 5, 4, 0, 0, 0, 0], // 27: no part of mode 5 behind the core
+    [25, 4, 64, 19, 64, 0, 0, 0, 0], // 28: a block cut whose plan id is not counted yet
 ];
 
 // A mode, whether the fields are at their largest, the tail's length, the rule of the buffer, and fields that are set anew with their
@@ -95,9 +102,9 @@ fn made(n: u16) -> usize {
     (n as usize) * 4 + 1
 }
 
-// Row `k` of the bodies; there are 22.
+// Row `k` of the bodies; there are 28.
 fn body_row(k: usize) -> [u16; 9] {
-    if k < 22 {
+    if k < 28 {
         BODIES[k]
     } else {
         [0, 0, 0, 0, 0, 0, 0, 0, 0]

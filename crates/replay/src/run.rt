@@ -17,7 +17,7 @@ fn size(v: u32) -> usize {
 }
 
 // What the reader answers.
-fn answer_to(body: &[u8]) -> [u32; 5] {
+fn answer_to(body: &[u8]) -> [u32; 6] {
     let read = s2xv2_reader::parse(body);
     let answer = read.answer;
     told(answer)
@@ -43,7 +43,7 @@ fn put_reading(d: u64, body: &[u8]) -> u64 {
 }
 
 // What was read is written back.
-fn back(body: &[u8], out: &mut [u8]) -> [u32; 5] {
+fn back(body: &[u8], out: &mut [u8]) -> [u32; 6] {
     let read = s2xv2_reader::parse(body);
     let record = read.body;
     let tail = s2xv2_reader::reserved_tail(body);
@@ -59,7 +59,7 @@ fn put_back(d: u64, body: &[u8], out: &mut [u8]) -> u64 {
 }
 
 // The digest, with the answer's cell above it.
-fn with_cell(d: u64, t: &[u32; 5]) -> u64 {
+fn with_cell(d: u64, t: &[u32; 6]) -> u64 {
     let c = (cell(t) % 64) as u64;
     d % 8_589_934_592 + c * 8_589_934_592
 }
@@ -92,24 +92,24 @@ pub(crate) fn run_made(d: u64, body: &[u8], made: usize, out: &mut [u8]) -> u64 
 }
 
 // What the reader answers to such a body.
-pub(crate) fn answer_to_made(body: &[u8], made: usize) -> [u32; 5] {
+pub(crate) fn answer_to_made(body: &[u8], made: usize) -> [u32; 6] {
     let n = made / 4;
     if n <= body.len() {
         answer_to(&body[0..n])
     } else {
-        [0, 0, 0, 0, 0]
+        [0; 6]
     }
 }
 
 // What the length call answers.
-fn measured(v: &[u32; 45], tail: &[u8]) -> [u32; 5] {
+fn measured(v: &[u32; 45], tail: &[u8]) -> [u32; 6] {
     let r = record(v);
     let answer = s2xv2_measure::serialized_len(r, tail);
     told(answer)
 }
 
 // What the writer answers.
-fn written(v: &[u32; 45], tail: &[u8], out: &mut [u8]) -> [u32; 5] {
+fn written(v: &[u32; 45], tail: &[u8], out: &mut [u8]) -> [u32; 6] {
     let r = record(v);
     cover(out, 165);
     let answer = s2xv2_writer::serialize_into(r, tail, out);
@@ -117,7 +117,7 @@ fn written(v: &[u32; 45], tail: &[u8], out: &mut [u8]) -> [u32; 5] {
 }
 
 // What was written is read back, where it was accepted.
-fn put_read_back(d: u64, t: &[u32; 5], out: &[u8]) -> u64 {
+fn put_read_back(d: u64, t: &[u32; 6], out: &[u8]) -> u64 {
     let n = size(t[2]);
     if t[1] != 0 {
         return d;
@@ -137,7 +137,7 @@ fn run_written(d: u64, v: &[u32; 45], tail: &[u8], out: &mut [u8]) -> u64 {
 }
 
 // The length of the buffer for a record.
-fn room_for(v: &[u32; 45], t: &[u32; 5]) -> usize {
+fn room_for(v: &[u32; 45], t: &[u32; 6]) -> usize {
     if t[1] == 0 {
         room(t[2], v[43], v[44])
     } else {
@@ -158,21 +158,21 @@ fn run_record(d: u64, v: &[u32; 45], tail: &[u8], out: &mut [u8]) -> u64 {
 }
 
 // What the writer answers to a record, with its tail and its buffer.
-pub(crate) fn written_to(v: &[u32; 45], tail: &[u8], out: &mut [u8]) -> [u32; 5] {
+pub(crate) fn written_to(v: &[u32; 45], tail: &[u8], out: &mut [u8]) -> [u32; 6] {
     let n = size(v[42]);
     if tail.len() < n {
-        return [0, 0, 0, 0, 0];
+        return [0; 6];
     }
     written_in_room(v, &tail[0..n], out)
 }
 
 // What the writer answers in such a buffer.
-fn written_in_room(v: &[u32; 45], tail: &[u8], out: &mut [u8]) -> [u32; 5] {
+fn written_in_room(v: &[u32; 45], tail: &[u8], out: &mut [u8]) -> [u32; 6] {
     let n = room_for(v, &measured(v, tail));
     if n <= out.len() {
         written(v, tail, &mut out[0..n])
     } else {
-        [0, 0, 0, 0, 0]
+        [0; 6]
     }
 }
 

@@ -9,33 +9,34 @@ fn low(n: usize) -> u32 {
 }
 
 // A refusal as numbers.
-fn refusal(why: Refusal) -> [u32; 5] {
-    match why {
-        Refusal::Short { place, need, have } => [4, 1, place as u32, low(need), low(have)],
-        Refusal::Long { length } => [2, 2, length as u32, 0, 0],
-        Refusal::Inconsistent { place } => [2, 3, place as u32, 0, 0],
-        Refusal::Field { place } => [2, 4, place as u32, 0, 0],
-        Refusal::Room { need, have } => [3, 5, low(need), low(have), 0],
-        Refusal::Slot => [1, 6, 0, 0, 0],
-        Refusal::NoFit { size } => [2, 7, low(size), 0, 0],
-    }
+fn refusal(why: Refusal) -> [u32; 6] {
+    let told = why.told();
+    let n = told.numbers;
+    [
+        low(told.count),
+        low(n[0]),
+        low(n[1]),
+        low(n[2]),
+        low(n[3]),
+        low(n[4]),
+    ]
 }
 
 // An answer as numbers.
-pub(crate) fn told(answer: Answer) -> [u32; 5] {
+pub(crate) fn told(answer: Answer) -> [u32; 6] {
     match answer {
-        Answer::Accepted(result) => [2, 0, low(result), 0, 0],
+        Answer::Accepted(result) => [2, 0, low(result), 0, 0, 0],
         Answer::Refused(why) => refusal(why),
     }
 }
 
 // An entry, 0 behind the end.
-fn at(t: &[u32; 5], i: usize) -> u32 {
-    if i < 5 { t[i] } else { 0 }
+fn at(t: &[u32; 6], i: usize) -> u32 {
+    if i < 6 { t[i] } else { 0 }
 }
 
 // Where an answer is counted: by its number, and by its place where it has one.
-pub(crate) fn cell(t: &[u32; 5]) -> u32 {
+pub(crate) fn cell(t: &[u32; 6]) -> u32 {
     match t[1] {
         0 => 0,
         1 => t[2] % 64,
@@ -47,8 +48,8 @@ pub(crate) fn cell(t: &[u32; 5]) -> u32 {
 }
 
 // An answer, into the digest.
-pub(crate) fn put_told(start: u64, t: &[u32; 5]) -> u64 {
-    let n = t[0] % 5;
+pub(crate) fn put_told(start: u64, t: &[u32; 6]) -> u64 {
+    let n = t[0] % 6;
     let mut d = start;
     let mut i: u32 = 0;
     while i < n {
@@ -65,8 +66,8 @@ fn word(v: u32) {
 }
 
 // The numbers, with a space before each.
-pub(crate) fn print(t: &[u32; 5]) {
-    let n = t[0] % 5;
+pub(crate) fn print(t: &[u32; 6]) {
+    let n = t[0] % 6;
     let mut i: u32 = 0;
     while i < n {
         word(at(t, (i + 1) as usize));

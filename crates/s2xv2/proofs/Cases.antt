@@ -9,7 +9,7 @@ use lib.Dec.{eqb}
 use Rattle.wire.specs.Flags.{and}
 use Rattle.s2xv2.specs.Table144c.{modeOf}
 use Rattle.s2xv2.specs.Default.{defaultRecord}
-use Rattle.s2xv2.specs.Read.{presentIn, recordFrom, recordAt, superframeAt, bodySize, readTold, readOf}
+use Rattle.s2xv2.specs.Read.{presentIn, recordFrom, recordAt, superframeAt, bodySize, leastTotal, readTold, readOf}
 use Rattle.s2xv2.specs.Encode.{coreValues, byteParts, scramblingParts, bondParts, superframeParts, partsOf, encode, encodedLength}
 use Rattle.s2xv2.specs.ListA.{inconsistency}
 use Rattle.s2xv2.specs.ListB.{unwritable}
@@ -77,16 +77,23 @@ printed = 0 ∷ 0 ∷ 0 ∷ 7 ∷ 0x10 ∷ 5 ∷ 3 ∷ 0 ∷ 0 ∷ 0x2A ∷ 0 �
 
 abbrev pub table : List Row
 table =
-    read 0 [] gives (1 ∷ 1 ∷ 18 ∷ 0 ∷ [])
+    read 0 [] gives (1 ∷ 1 ∷ 18 ∷ 0 ∷ 18 ∷ [])
+    ∷ read 17 (4 is 0x50 ∷ []) gives (1 ∷ 1 ∷ 18 ∷ 17 ∷ 18 ∷ [])
     ∷ read 18 [] gives (0 ∷ 18 ∷ [])
-    ∷ read 18 (4 is 0x08 ∷ []) gives (1 ∷ 2 ∷ 19 ∷ 18 ∷ [])
-    ∷ read 20 (4 is 0x10 ∷ 6 is 0x80 ∷ []) gives (1 ∷ 3 ∷ 21 ∷ 20 ∷ [])
+    ∷ read 18 (4 is 0x08 ∷ []) gives (1 ∷ 2 ∷ 19 ∷ 18 ∷ 19 ∷ [])
+    ∷ read 18 (4 is 0x58 ∷ 5 is 0x04 ∷ []) gives (1 ∷ 2 ∷ 19 ∷ 18 ∷ 33 ∷ [])
+    ∷ read 20 (4 is 0x10 ∷ 6 is 0x80 ∷ []) gives (1 ∷ 3 ∷ 21 ∷ 20 ∷ 21 ∷ [])
     ∷ read₁ 18 (6 is 0x80 ∷ []) gives (0 ∷ 18 ∷ 1 ∷ [])
-    ∷ read 18 (4 is 0x20 ∷ []) gives (1 ∷ 4 ∷ 19 ∷ 18 ∷ [])
-    ∷ read 23 (5 is 0x04 ∷ 18 is 0x01 ∷ []) gives (1 ∷ 6 ∷ 27 ∷ 23 ∷ [])
+    ∷ read 18 (4 is 0x20 ∷ []) gives (1 ∷ 4 ∷ 19 ∷ 18 ∷ 19 ∷ [])
+    ∷ read 18 (4 is 0x50 ∷ []) gives (1 ∷ 4 ∷ 19 ∷ 18 ∷ 27 ∷ [])
+    ∷ read 18 (5 is 0x04 ∷ []) gives (1 ∷ 5 ∷ 19 ∷ 18 ∷ 23 ∷ [])
+    ∷ read 19 (5 is 0x04 ∷ 18 is 0x01 ∷ []) gives (1 ∷ 6 ∷ 23 ∷ 19 ∷ 27 ∷ [])
+    ∷ read 23 (5 is 0x04 ∷ 18 is 0x01 ∷ []) gives (1 ∷ 6 ∷ 27 ∷ 23 ∷ 27 ∷ [])
     ∷ readBonds 18 (5 is 0x08 ∷ []) gives (0 ∷ 18 ∷ 0 ∷ [])
-    ∷ read 25 (4 is 0x40 ∷ []) gives (1 ∷ 7 ∷ 26 ∷ 25 ∷ [])
-    ∷ read 26 (4 is 0x40 ∷ 19 is 0x40 ∷ []) gives (1 ∷ 8 ∷ 29 ∷ 26 ∷ [])
+    ∷ read 25 (4 is 0x40 ∷ []) gives (1 ∷ 7 ∷ 26 ∷ 25 ∷ 26 ∷ [])
+    ∷ read 25 (4 is 0x40 ∷ 19 is 0x40 ∷ []) gives (1 ∷ 7 ∷ 26 ∷ 25 ∷ 26 ∷ [])
+    ∷ read 26 (4 is 0x40 ∷ 19 is 0x40 ∷ []) gives (1 ∷ 8 ∷ 29 ∷ 26 ∷ 30 ∷ [])
+    ∷ read 29 (4 is 0x40 ∷ 19 is 0x40 ∷ []) gives (1 ∷ 9 ∷ 30 ∷ 29 ∷ 30 ∷ [])
     ∷ write 16777216 gives (4 ∷ 9 ∷ [])
     ∷ write 16777215 gives (0 ∷ 18 ∷ [])
     ∷ coreValues (readOf printed .body) gives (7 ∷ 1 ∷ 0 ∷ 0 ∷ 0 ∷ 0 ∷ 0 ∷ 1 ∷ 1 ∷ 0 ∷ 0 ∷ 3 ∷ 42 ∷ 12000000 ∷ 27500 ∷ [])
@@ -95,5 +102,5 @@ table =
 
 -- Every row of the table is right.
 pub cases : right table ≡ true
-unfolding readTold presentIn bodySize recordAt superframeAt defaultRecord modeOf writeTold inconsistency unwritable encodedLength encode partsOf byteParts scramblingParts bondParts superframeParts
+unfolding readTold presentIn bodySize leastTotal recordAt superframeAt defaultRecord modeOf writeTold inconsistency unwritable encodedLength encode partsOf byteParts scramblingParts bondParts superframeParts
 cases = refl

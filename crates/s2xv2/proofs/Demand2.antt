@@ -1,19 +1,19 @@
--- Demand 2, over the definitions alone: which bodies are accepted, that reading and writing are inverse to each other, and by what a record is
--- refused. Each theorem has its sentence above it; the files beside this one have the steps.
+-- Demand 2, over the definitions alone: which bodies are accepted and what one that is cut tells, that reading and writing are inverse to each other, and by
+-- what a record is refused. Each theorem has its sentence above it; the files beside this one have the steps.
 -- Assumes nothing.
 use mathlib.Core.Logic.{_↔_}
 use mathlib.Core.Path.{_≡_, sym, ap, _∙_}
 use mathlib.Core.List.{List, [], _∷_, _++_}
 use mathlib.Core.Bool.{Bool, true, false}
-use Prim.Native.Nat.{ℕ, _+_, _≤_, _<_}
+use Prim.Native.Nat.{ℕ, _+_, _-_, _≤_, _<_}
 use native.Mathlib.Omega.{arith}
-use lib.ListN.{length, drop}
+use lib.ListN.{length, drop, getD, replicate}
 use Rattle.wire.specs.Flags.{when, isOne, only}
 use Rattle.wire.specs.Bits.{bits}
 use Rattle.wire.specs.Widths.{Bytes}
 use Rattle.wire.specs.Parts.{sizes}
 use Rattle.s2xv2.specs.Table144c.{hasSelector}
-use Rattle.s2xv2.specs.Read.{presentIn, streamEnd, timesliceEnd, superframeAt, bodySize, recordIn, readTold, readOf, tailOf}
+use Rattle.s2xv2.specs.Read.{presentIn, streamEnd, timesliceEnd, bondEnd, hasPlan, blockEnd, superframeAt, bodySize, leastTotal, recordIn, readTold, readOf, tailOf}
 use Rattle.answers.specs.Answer.{numberOf}
 use Rattle.s2xv2.specs.Encode.{partsOf, encode, encodedLength}
 use Rattle.s2xv2.specs.ListA.{inconsistency}
@@ -24,6 +24,7 @@ use Rattle.s2xv2.specs.Carried.{carried}
 use Rattle.s2xv2.specs.Held.{Held}
 use Rattle.s2xv2.specs.declared.record.S2Xv2SatelliteDeliverySystem.{S2Xv2SatelliteDeliverySystem}
 use Rattle.s2xv2.proofs.Sizes as sizes
+use Rattle.s2xv2.proofs.Least as least
 use Rattle.s2xv2.proofs.Sizes.{oneOf, modeBits, blockPlace}
 use Rattle.s2xv2.proofs.Reach.{told-accepted, accepted-reaches}
 use Rattle.s2xv2.proofs.Fields.{core-fields, reserved-1-bit, scrambling-fields, bond-fields, block-fields, reserved-4-nibble}
@@ -51,6 +52,24 @@ accepted-within = sizes.accepted-within
 
 pub size-range : (s : List ℕ) → (18 ≤ bodySize s) × (bodySize s ≤ 41)
 size-range = sizes.size-range
+
+-- A body that is refused with 1 tells, last, its length and its least total; the length is below need, and need is not above the least total.
+pub short-told : (s : List ℕ) → numberOf (readTold s) ≡ 1
+    → (readTold s ≡ 1 ∷ getD (readTold s) 1 0 ∷ getD (readTold s) 2 0 ∷ length s ∷ leastTotal s ∷ [])
+    × (length s < getD (readTold s) 2 0)
+    × (getD (readTold s) 2 0 ≤ leastTotal s)
+short-told = least.short-told
+
+-- No body that begins with these bytes and is accepted has fewer than the least total ..
+pub least-needed : (s t : List ℕ) → numberOf (readTold (s ++ t)) ≡ 0 → leastTotal s ≤ length (s ++ t)
+least-needed = least.least-needed
+
+-- .. and it is reached: filled up to it with zero bytes, a body of 18 bytes or more is accepted; except one that ends inside the first eight bytes of a
+-- superframe block whose hopping selector is there and set.
+pub least-reached : (s : List ℕ) → 18 ≤ length s → length s ≤ 4096
+    → (presentIn s .superframe ≡ true → hasPlan s (bondEnd s (presentIn s)) ≡ true → blockEnd s (presentIn s) ≤ length s)
+    → numberOf (readTold (s ++ replicate (leastTotal s - length s) 0)) ≡ 0
+least-reached s c h believed = least.least-reached s c believed h
 
 -- Reserved bits are in the record, in every place where the wire carries them: the two of byte 5; the top one of byte 6 outside modes 1 and 2; the
 -- six before a scrambling index; the seven before a bond count; the two of a superframe block, and its four where SFFI is absent.

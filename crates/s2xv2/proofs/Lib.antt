@@ -3,6 +3,7 @@ pub mod Reach
 pub mod Sizes
 pub mod Fields
 pub mod Cases
+pub mod Least
 pub mod Lists
 pub mod Whole
 pub mod Round

@@ -14,19 +14,19 @@ use Rattle.answers.proofs.Short.{Reaches, reaches-told, told-reaches}
 use Rattle.wire.specs.Flags.{when, only}
 use Rattle.answers.specs.Answer.{numbers, saturated, numberOf}
 use Rattle.s2xv2.specs.Default.{defaultRecord}
-use Rattle.s2xv2.specs.Read.{Present, presentIn, hasSecond, bondSize, bondEnd, hasPlan, superframeSize, planSize, superframeEnd, timesliceEnd, bodySize, needs, readTold, readOf, recordIn, tailOf}
+use Rattle.s2xv2.specs.Read.{Present, presentIn, hasSecond, bondSize, bondEnd, hasPlan, superframeSize, planSize, superframeEnd, timesliceEnd, bodySize, needs, shortOf, readTold, readOf, recordIn, tailOf}
 use Rattle.answers.specs.Short.{Need, shortTold}
 use Rattle.answers.specs.declared.answer.Refusal.{Refusal}
 use Rattle.answers.specs.declared.answer.Refusal.the-variants as R
 
 -- ---- the ends are in order
 
-bond-order : (b d : Bool) → (only b 1 ≤ only b (bondSize d)) × (only b 5 ≤ only b (bondSize d))
+pub bond-order : (b d : Bool) → (only b 1 ≤ only b (bondSize d)) × (only b 5 ≤ only b (bondSize d))
 bond-order true true = (omega arith, omega arith)
 bond-order true false = (omega arith, omega arith)
 bond-order false d = (omega arith, omega arith)
 
-block-order : (b d : Bool) → (only b 8 ≤ only b (superframeSize d)) × (only b (planSize d) ≤ only b (superframeSize d))
+pub block-order : (b d : Bool) → (only b 8 ≤ only b (superframeSize d)) × (only b (planSize d) ≤ only b (superframeSize d))
 block-order true true = (omega arith, omega arith)
 block-order true false = (omega arith, omega arith)
 block-order false d = (omega arith, omega arith)
@@ -45,16 +45,13 @@ module _ (s : List ℕ) where
   told-long h = simp (lt-ltb _ _ h)
 
   -- within the limit, what is missing decides
-  pub told-within : length s ≤ 4096 → readTold s ≡ shortTold (length s) (needs s (presentIn s)) (0 ∷ bodySize s ∷ [])
+  pub told-within : length s ≤ 4096 → readTold s ≡ shortTold (shortOf s) (length s) (needs s (presentIn s)) (0 ∷ bodySize s ∷ [])
   unfolding readTold
   told-within h = simp (le-ltb _ _ h)
 
-  pub told-core : length s < 18 → readTold s ≡ 1 ∷ 1 ∷ 18 ∷ length s ∷ []
-  told-core h = told-within (omega arith) ∙ simp (lt-ltb _ _ h)
-
   pub told-accepted : bodySize s ≤ length s → length s ≤ 4096 → readTold s ≡ 0 ∷ bodySize s ∷ []
   unfolding bodySize
-  told-accepted e h = told-within h ∙ reaches-told (length s) (needs s (presentIn s)) _ (reaches-all s (presentIn s) (length s) e)
+  told-accepted e h = told-within h ∙ reaches-told (shortOf s) (length s) (needs s (presentIn s)) _ (reaches-all s (presentIn s) (length s) e)
 
   -- what a body that is accepted reads as, and one that is refused
   pub reads-accepted : bodySize s ≤ length s → length s ≤ 4096 → readOf s ≡ record { told = 0 ∷ bodySize s ∷ []; body = recordIn s }
@@ -75,7 +72,7 @@ module _ (s : List ℕ) where
       go true e = let d : _≡_ {A = ℕ} 2 0 = ap numberOf (sym (told-long (ltb-true _ _ e))) ∙ z in absurd (omega arith)
       go false e =
           let h : length s ≤ 4096 = ltb-false _ _ e in
-          (reached (told-reaches (length s) (needs s (presentIn s)) (0 ∷ bodySize s ∷ []) (ap numberOf (sym (told-within h)) ∙ z)), h)
+          (reached (told-reaches (shortOf s) (length s) (needs s (presentIn s)) (0 ∷ bodySize s ∷ []) (ap numberOf (sym (told-within h)) ∙ z)), h)
 
   -- one that does not reach it shows the default record
   pub reads-short : length s < bodySize s → readOf s ≡ record { told = readTold s; body = defaultRecord }

@@ -19,6 +19,8 @@
 -- `superframeEnd`   where the superframe block ends
 -- `bodySize`        where the last part ends
 -- `needs`           the parts with the ends that the body has to reach
+-- `leastTotal`      how long the whole of a body has to be, by what is there of it
+-- `shortOf`         answer 1 of a body that ends inside a part
 -- `superframeFrom`  a superframe block made of its values
 -- `planAt`          the plan id of a block at a byte
 -- `superframeAt`    the superframe block at a byte
@@ -52,6 +54,7 @@ use Rattle.s2xv2.specs.Default.{defaultRecord}
 use Rattle.answers.specs.Options.{someBoolIf, some8If, some32If}
 use Rattle.s2xv2.specs.OptionSuperframe.{someSuperframeIf}
 use Rattle.answers.specs.Answer.{numbers, told, saturated, numberOf}
+use Rattle.answers.specs.declared.answer.Refusal.{Refusal}
 use Rattle.answers.specs.declared.answer.Refusal.the-variants as R
 use Rattle.answers.specs.declared.answer.Answer.the-variants as A
 use Rattle.s2xv2.specs.declared.record.S2Xv2SatelliteDeliverySystem.{S2Xv2SatelliteDeliverySystem}
@@ -152,6 +155,16 @@ needs s k =
     ∷ 8 to planEnd s k
     ∷ 9 to superframeEnd s k
     ∷ []
+
+-- THE LEAST TOTAL: the core, until it is there; then all that the core asks for, where a bond header that is not there counts as one id, and a
+-- superframe block as one without a plan id, until that much of it is there
+unfoldable pub leastTotal : List ℕ → ℕ
+leastTotal s =
+    when (ltb (length s) (size T.core)) (size T.core)
+    (when (ltb (length s) (blockEnd s (presentIn s))) (blockEnd s (presentIn s)) (bodySize s))
+
+abbrev pub shortOf : List ℕ → Need → Refusal
+shortOf s n = R.Short (n .place) (n .need) (length s) (leastTotal s)
 
 -- ---- the record
 
@@ -260,7 +273,7 @@ recordIn s = recordOf s (presentIn s)
 unfoldable pub readTold : List ℕ → List ℕ
 readTold s =
     when (ltb 4096 (length s)) (numbers (R.Long (saturated (length s))))
-    (shortTold (length s) (needs s (presentIn s)) (told (A.Accepted (bodySize s))))
+    (shortTold (shortOf s) (length s) (needs s (presentIn s)) (told (A.Accepted (bodySize s))))
 
 -- what the reader answers: the numbers told, and the record shown
 pub record Reading : Type 0 where

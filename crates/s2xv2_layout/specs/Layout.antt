@@ -3,13 +3,19 @@
 -- `asked`       the parts that such a struct names
 -- `endsNow`     where each of them ends
 -- `needsTo`     the ends with their places
+-- `leastTo`     the least total by the ends
+-- `shortTo`     answer 1 by the ends
 use Prim.Native.Nat.{ℕ}
 use mathlib.Core.List.{List, [], _∷_}
+use lib.Dec.{ltb}
+use Rattle.wire.specs.Flags.{when}
 use Rattle.wire.specs.Widths.{size}
 use Rattle.s2xv2.specs.Table144b as T
 use Rattle.s2xv2.specs.Read as R
 use Rattle.s2xv2.specs.Read.{presentIn, streamEnd, scramblingEnd, timesliceEnd, headerEnd, firstIdEnd, hasSecond, bondEnd, blockEnd, hasPlan, planEnd, superframeEnd}
 use Rattle.answers.specs.Short.{Need, _to_}
+use Rattle.answers.specs.declared.answer.Refusal.{Refusal}
+use Rattle.answers.specs.declared.answer.Refusal.the-variants as A
 use Rattle.s2xv2_layout.specs.declared.present.Present.{Present}
 use Rattle.s2xv2_layout.specs.declared.ends.Ends.{Ends}
 
@@ -60,3 +66,10 @@ needsTo e =
     ∷ 8 to e .«plan_id»
     ∷ 9 to e .superframe
     ∷ []
+
+-- of a body of `have` bytes
+abbrev pub leastTo : ℕ → Ends → ℕ
+leastTo have e = when (ltb have (size T.core)) (size T.core) (when (ltb have (e .block)) (e .block) (e .superframe))
+
+abbrev pub shortTo : ℕ → Ends → Need → Refusal
+shortTo have e n = A.Short (n .place) (n .need) have (leastTo have e)

@@ -6,7 +6,7 @@ use native.Mathlib.Omega.{arith}
 use lib.ListN.{length}
 use lib.Dec.{eqb, ltb}
 use Rattle.answers.specs.Short.{Need, shortTold}
-use Rattle.s2xv2.specs.Read.{needs, presentIn, bodySize, readTold, readOf, tailOf}
+use Rattle.s2xv2.specs.Read.{needs, presentIn, bodySize, shortOf, readTold, readOf, tailOf}
 use Rattle.answers.specs.Answer.{numberOf}
 use Rattle.s2xv2.specs.declared.record.S2Xv2SatelliteDeliverySystem.{S2Xv2SatelliteDeliverySystem}
 use Rattle.lines.specs.Line.{codes, refusedOf}
@@ -18,19 +18,19 @@ body-most : (n : ℕ) (r : S2Xv2SatelliteDeliverySystem) (t : ℕ) → Most (bod
 unfolding bodyOf
 body-most n r t = four (core-most n r) (parts-most r) (superframe-most _) (line-most _ _)
 
-short-most : (have : ℕ) (ns : List Need) (o : List ℕ) → Most o 4 → Most (shortTold have ns o) 4
-short-most have [] o x = x
-short-most have (n ∷ ns) o x = either (ltb have (n .need)) (record { le = omega arith }) (short-most have ns o x)
+short-most : (s : List ℕ) (ns : List Need) (o : List ℕ) → Most o 5 → Most (shortTold (shortOf s) (length s) ns o) 5
+short-most s [] o x = x
+short-most s (n ∷ ns) o x = either (ltb (length s) (n .need)) (record { le = omega arith }) (short-most s ns o x)
 
-told-most : (s : List ℕ) → Most (readTold s) 4
+told-most : (s : List ℕ) → Most (readTold s) 5
 unfolding readTold
 told-most s =
     either (ltb 4096 (length s)) (record { le = omega arith })
-    (short-most (length s) (needs s (presentIn s)) (0 ∷ bodySize s ∷ []) (record { le = omega arith }))
+    (short-most s (needs s (presentIn s)) (0 ∷ bodySize s ∷ []) (record { le = omega arith }))
 
-refused-most : {told : List ℕ} → Most told 4 → Most (refusedOf told) 52
+refused-most : {told : List ℕ} → Most told 5 → Most (refusedOf told) 63
 unfolding refusedOf
-refused-most {told} x = upto 52 (omega (arith, x .le)) (three (name-most (codes "refused")) (words-most told) (one-byte 10))
+refused-most {told} x = upto 63 (omega (arith, x .le)) (three (name-most (codes "refused")) (words-most told) (one-byte 10))
 
 pub dump-most : (s : List ℕ) → length (dumpOf s) ≤ 1067
 unfolding dumpOf

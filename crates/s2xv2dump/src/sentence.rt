@@ -79,25 +79,32 @@ fn part(place: u8) {
     }
 }
 
-// Says which part a body of `have` bytes lacks, which would end at byte `need`.
-fn short(place: u8, need: usize, have: usize) {
+// Says which part a body of `have` bytes lacks, which would end at byte `need`, and how long the whole is at the least.
+fn short(place: u8, need: usize, have: usize, least: usize) {
     put(b"s2xv2dump: the body ends ");
     part(place);
     put(b": ");
     number(need);
-    put(b" bytes are needed, and ");
+    put(b" bytes are needed, ");
     number(have);
     if have == 1 {
-        put(b" is there\n");
+        put(b" is there, and the whole has at least ");
     } else {
-        put(b" are there\n");
+        put(b" are there, and the whole has at least ");
     }
+    number(least);
+    put(b"\n");
 }
 
 // Says a refusal. Reading a body gives no other than the first two, and reading a slot the third beside them.
 pub(crate) fn refusal(why: Refusal) {
     match why {
-        Refusal::Short { place, need, have } => short(place, need, have),
+        Refusal::Short {
+            place,
+            need,
+            have,
+            least,
+        } => short(place, need, have, least),
         Refusal::Long { length: _ } => say(b"the body has more than 4096 bytes"),
         Refusal::Slot => say(
             b"the slot has a wrong size, which may be 21 to 257 bytes, or is not in good form",

@@ -97,7 +97,7 @@ fn refused(why: Refusal) {
     let told = why.told();
     let count = told.count;
     let numbers = told.numbers;
-    // Room for the longest line: the word, and four numbers of at most ten digits.
+    // Room for the longest line: the word, and five numbers of at most ten digits.
     let mut out = [0u8; 64];
     let at = copy(&mut out, 0, b"refused");
     let at = words(&mut out, at, &numbers[0..count]);

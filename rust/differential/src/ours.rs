@@ -5,7 +5,7 @@ use oracle::values::{Values, COUNT};
 use s2xv2::{Progress, Refusal};
 
 /// An answer's number and what it tells, with 0 where it tells less.
-pub type Told = [u32; 4];
+pub type Told = [u32; 5];
 
 /// What a body or a slot reads as.
 #[derive(Debug, PartialEq)]
@@ -23,18 +23,18 @@ pub fn told<T>(result: &Result<T, Refusal>, accepted: impl Fn(&T) -> [usize; 2])
     match result {
         Ok(result) => {
             let [first, second] = accepted(result);
-            [0, number(first), number(second), 0]
+            [0, number(first), number(second), 0, 0]
         }
         Err(refusal) => {
-            let [first, second, third] = refusal.told().map(number);
-            [refusal.number().into(), first, second, third]
+            let [first, second, third, fourth] = refusal.told().map(number);
+            [refusal.number().into(), first, second, third, fourth]
         }
     }
 }
 
 /// The same of the oracle's numbers.
 pub fn padded(numbers: &[u32]) -> Told {
-    let mut told = [0; 4];
+    let mut told = [0; 5];
     told[..numbers.len()].copy_from_slice(numbers);
     told
 }

@@ -79,7 +79,7 @@ fn record(case: u32, d: &mut Draws, n: usize) -> (Values, Vec<u8>) {
 fn model_reading(slot: &[u8]) -> Reading<'_> {
     let shown = jobs::reading(slot);
     let empty = Reading {
-        told: if shown[0] == 9 { [0; 4] } else { padded(&shown) },
+        told: if shown[0] == 9 { [0; 5] } else { padded(&shown) },
         values: [0; COUNT],
         tail: &[],
     };

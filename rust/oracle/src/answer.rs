@@ -3,11 +3,19 @@
 #[derive(Clone, Copy, Debug, PartialEq, Eq)]
 pub enum Answer {
     Accepted(usize),
-    Short { place: u32, need: usize, have: usize },
+    Short {
+        place: u32,
+        need: usize,
+        have: usize,
+        least: usize,
+    },
     Long(usize),
     Inconsistent(u32),
     Field(u32),
-    Room { need: usize, have: usize },
+    Room {
+        need: usize,
+        have: usize,
+    },
 }
 
 /// How many cells a table of counts has: one for each answer, or for each of its places.
@@ -18,7 +26,7 @@ impl Answer {
     pub fn numbers(self) -> Vec<u32> {
         match self {
             Answer::Accepted(result) => vec![0, result as u32],
-            Answer::Short { place, need, have } => vec![1, place, need as u32, have as u32],
+            Answer::Short { place, need, have, least } => vec![1, place, need as u32, have as u32, least as u32],
             Answer::Long(length) => vec![2, length as u32],
             Answer::Inconsistent(place) => vec![3, place],
             Answer::Field(place) => vec![4, place],

@@ -1,8 +1,10 @@
 //! The crate's own reader, writer and length, with its answers as the numbers of docs/ANSWERS.md.
 //!
 //! Where the crate has no answer to compare, that of docs/ANSWERS.md is given: a body or an encoding above 4,096 bytes (2), a record that
-//! contradicts itself (3), and a polarization above 3, which the crate's type cannot hold (4, place 5).
+//! contradicts itself (3), and a polarization above 3, which the crate's type cannot hold (4, place 5). So is the one number that the crate
+//! does not tell: the least total of a body that ends inside a part (1).
 use crate::answer::{long, Answer};
+use crate::least::least_total;
 use crate::model::inconsistency;
 use crate::numbers::{from_values, to_values};
 use crate::types::{Polarization, Record, RollOff, S2Xv2Mode};
@@ -36,6 +38,7 @@ pub fn read(body: &[u8]) -> Reading<'_> {
             place: place_of_part(what),
             need,
             have,
+            least: least_total(body),
         }),
         Err(other) => panic!("the reader answered {other:?}"),
     }

@@ -6,6 +6,7 @@ pub mod crate_side;
 pub mod generator;
 pub mod jobs;
 pub mod labels;
+pub mod least;
 pub mod model;
 pub mod named;
 mod numbers;

@@ -1,5 +1,5 @@
 //! What the Rust has no answer for, from docs/ANSWERS.md alone: list A. The limit of 4,096 bytes and a polarization above 3 stand where
-//! the Rust is asked (crate_side.rs).
+//! the Rust is asked (crate_side.rs), and the least total in least.rs.
 use crate::values::*;
 
 /// Codes of modes, as the record holds them: a mode that is `Reserved` has none of the questions' answers.

@@ -1,12 +1,12 @@
-//! The cases with a name: each row of the table of bodies at the edges, the errors that look right, and the edges of
-//! both lists.
+//! The cases with a name: each row of the table of bodies at the edges, the errors that look right, the edges of
+//! both lists, and the rows of the table of least totals.
 use crate::generator::{plain, Body, Written};
 use crate::values::*;
 
 /// A body's length, and bytes of it that are not 0.
 type BodyRow = (usize, &'static [(usize, u8)]);
 
-const BODIES: [BodyRow; 22] = [
+const BODIES: [BodyRow; 28] = [
     // The rows of the table, in its order.
     (0, &[]),
     (18, &[]),
@@ -32,6 +32,13 @@ const BODIES: [BodyRow; 22] = [
     (40, &[(4, 0x58), (5, 0x04), (20, 0x01), (30, 0x40)]),
     (4096, &[]),
     (4097, &[]),
+    // The rows of the table of least totals that are not among those above.
+    (17, &[(4, 0x50)]),
+    (18, &[(4, 0x50)]),
+    (18, &[(5, 0x04)]),
+    (19, &[(5, 0x04), (18, 0x01)]),
+    (18, &[(4, 0x58), (5, 0x04)]),
+    (25, &[(4, 0x40), (19, 0x40)]),
 ];
 
 /// A mode, whether the fields are at their largest, the tail's length, the rule of the buffer, and fields that are set anew.

@@ -176,16 +176,18 @@ pub(crate) fn accepted(answer: ffi::Answer) -> Result<(usize, usize), Refusal> {
     }
 }
 
-/// Why an answer refuses. A number that the contracts do not allow is [`Refusal::BadArchive`], and never taken for another. The fourth number
-/// that an answer may tell is not looked at: it is 0 in every answer of today's.
+/// Why an answer refuses. A number that the contracts do not allow is [`Refusal::BadArchive`], and never taken for another. So is a least
+/// total that is below the end of a part: an archive of an older version tells 0 there.
 #[cold]
 fn refusal(answer: ffi::Answer) -> Refusal {
     let place = |last: u8| u8::try_from(answer.first).ok().filter(|place| (1..=last).contains(place));
     let refusal = match answer.number {
+        1 if answer.fourth < answer.second => None,
         1 => place(9).map(|place| Refusal::Short {
             place,
             need: answer.second.into(),
             have: answer.third.into(),
+            least: answer.fourth.into(),
         }),
         2 => Some(Refusal::Long { length: answer.first }),
         3 => place(9).map(|place| Refusal::Inconsistent { place }),
@@ -226,6 +228,7 @@ mod tests {
                     place: 4,
                     need: 5,
                     have: 6,
+                    least: 7,
                 },
             ),
             (2, Refusal::Long { length: 4 }),
@@ -248,6 +251,31 @@ mod tests {
         }
         for (number, first) in [(1, 0), (1, 10), (1, 256 + 1), (3, 0), (3, 10), (4, 0), (4, 23), (4, 256 + 4)] {
             assert_eq!(accepted(answer(number, first)), Err(Refusal::BadArchive));
+        }
+    }
+
+    #[test]
+    fn a_least_total_is_not_below_the_end_of_a_part() {
+        let told = |fourth: u16| {
+            accepted(ffi::Answer {
+                number: 1,
+                first: 4,
+                second: 19,
+                third: 18,
+                fourth,
+            })
+        };
+        for fourth in [0, 17, 18] {
+            assert_eq!(told(fourth), Err(Refusal::BadArchive));
+        }
+        for fourth in [19, 20, 27, u16::MAX] {
+            let refusal = Refusal::Short {
+                place: 4,
+                need: 19,
+                have: 18,
+                least: fourth.into(),
+            };
+            assert_eq!(told(fourth), Err(refusal));
         }
     }
 

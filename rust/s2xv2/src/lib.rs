@@ -18,7 +18,7 @@
 //! assert_eq!(written, body);
 //!
 //! let short = S2Xv2SatelliteDeliverySystem::parse(&body[..17]);
-//! assert_eq!(short, Err(Refusal::Short { place: 1, need: 18, have: 17 }));
+//! assert_eq!(short, Err(Refusal::Short { place: 1, need: 18, have: 17, least: 18 }));
 //! # Ok::<(), Refusal>(())
 //! ```
 //!

@@ -126,7 +126,7 @@ impl<'a> S2Xv2SatelliteDeliverySystem<'a> {
     /// assert_eq!(record.reserved_tail, [0, 0]);
     ///
     /// let cut = S2Xv2SatelliteDeliverySystem::parse(&body[..18]);
-    /// assert_eq!(cut, Err(Refusal::Short { place: 4, need: 19, have: 18 }));
+    /// assert_eq!(cut, Err(Refusal::Short { place: 4, need: 19, have: 18, least: 19 }));
     /// # Ok::<(), Refusal>(())
     /// ```
     ///

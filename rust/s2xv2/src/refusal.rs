@@ -13,14 +13,14 @@ use core::fmt;
 /// let mut body = [0; 18];
 /// assert!(S2Xv2SatelliteDeliverySystem::parse(&body).is_ok());
 ///
-/// body[4] = 0x20;
+/// body[4] = 0x50;
 /// let refusal = S2Xv2SatelliteDeliverySystem::parse(&body).unwrap_err();
-/// assert_eq!(refusal, Refusal::Short { place: 4, need: 19, have: 18 });
+/// assert_eq!(refusal, Refusal::Short { place: 4, need: 19, have: 18, least: 27 });
 /// assert!(matches!(refusal, Refusal::Short { place: places::short::TIMESLICE_NUMBER, .. }));
-/// assert_eq!((refusal.number(), refusal.told()), (1, [4, 19, 18]));
+/// assert_eq!((refusal.number(), refusal.told()), (1, [4, 19, 18, 27]));
 /// assert_eq!(
 ///     refusal.to_string(),
-///     "the body ends inside the timeslice number: 19 bytes are needed, 18 are there"
+///     "the body ends inside the timeslice number: 19 bytes are needed, 18 are there, and the whole has at least 27"
 /// );
 /// ```
 #[derive(Debug, Clone, Copy, PartialEq, Eq, Hash)]
@@ -34,6 +34,8 @@ pub enum Refusal {
         need: usize,
         /// How long the body is.
         have: usize,
+        /// How long the whole body is at the least, by what is there of it.
+        least: usize,
     },
     /// A body or an encoding of more than 4,096 bytes.
     Long {
@@ -112,15 +114,15 @@ impl Refusal {
 
     /// What the refusal tells, in the order of its fields, with 0 where it tells less.
     #[must_use]
-    pub fn told(&self) -> [usize; 3] {
+    pub fn told(&self) -> [usize; 4] {
         match *self {
-            Self::Short { place, need, have } => [place.into(), need, have],
-            Self::Long { length } => [length.into(), 0, 0],
-            Self::Inconsistent { place } | Self::Field { place } => [place.into(), 0, 0],
-            Self::Room { need, have } => [need, have, 0],
-            Self::NoFit { size } => [size, 0, 0],
-            Self::TooManyIds { count } => [count, 0, 0],
-            Self::Slot | Self::OtherSize | Self::BadArchive => [0; 3],
+            Self::Short { place, need, have, least } => [place.into(), need, have, least],
+            Self::Long { length } => [length.into(), 0, 0, 0],
+            Self::Inconsistent { place } | Self::Field { place } => [place.into(), 0, 0, 0],
+            Self::Room { need, have } => [need, have, 0, 0],
+            Self::NoFit { size } => [size, 0, 0, 0],
+            Self::TooManyIds { count } => [count, 0, 0, 0],
+            Self::Slot | Self::OtherSize | Self::BadArchive => [0; 4],
         }
     }
 }
@@ -128,11 +130,11 @@ impl Refusal {
 impl fmt::Display for Refusal {
     fn fmt(&self, f: &mut fmt::Formatter<'_>) -> fmt::Result {
         match *self {
-            Self::Short { place, need, have } => {
+            Self::Short { place, need, have, least } => {
                 let part = words(short::WORDS, place);
                 write!(
                     f,
-                    "the body ends inside {part}: {need} bytes are needed, {have} {} there",
+                    "the body ends inside {part}: {need} bytes are needed, {have} {} there, and the whole has at least {least}",
                     are(have)
                 )
             }
@@ -168,8 +170,18 @@ mod tests {
                     place: 1,
                     need: 18,
                     have: 1,
+                    least: 18,
                 },
-                "the body ends inside the core: 18 bytes are needed, 1 is there",
+                "the body ends inside the core: 18 bytes are needed, 1 is there, and the whole has at least 18",
+            ),
+            (
+                Refusal::Short {
+                    place: 6,
+                    need: 23,
+                    have: 19,
+                    least: 27,
+                },
+                "the body ends inside a secondary delivery system id: 23 bytes are needed, 19 are there, and the whole has at least 27",
             ),
             (Refusal::Long { length: 4097 }, "4097 bytes are too long: 4096 are the most"),
             (
@@ -210,10 +222,34 @@ mod tests {
     }
 
     #[test]
+    fn what_each_tells() {
+        for (refusal, told) in [
+            (
+                Refusal::Short {
+                    place: 4,
+                    need: 19,
+                    have: 18,
+                    least: 27,
+                },
+                [4, 19, 18, 27],
+            ),
+            (Refusal::Long { length: 4097 }, [4097, 0, 0, 0]),
+            (Refusal::Inconsistent { place: 8 }, [8, 0, 0, 0]),
+            (Refusal::Field { place: 22 }, [22, 0, 0, 0]),
+            (Refusal::Room { need: 18, have: 17 }, [18, 17, 0, 0]),
+            (Refusal::Slot, [0; 4]),
+            (Refusal::NoFit { size: 21 }, [21, 0, 0, 0]),
+            (Refusal::OtherSize, [0; 4]),
+        ] {
+            assert_eq!(refusal.told(), told);
+        }
+    }
+
+    #[test]
     fn the_two_of_the_boundary_have_numbers_of_their_own() {
         let ids = Refusal::TooManyIds { count: 300 };
-        assert_eq!((ids.number(), ids.told()), (100, [300, 0, 0]));
-        assert_eq!((Refusal::BadArchive.number(), Refusal::BadArchive.told()), (101, [0; 3]));
+        assert_eq!((ids.number(), ids.told()), (100, [300, 0, 0, 0]));
+        assert_eq!((Refusal::BadArchive.number(), Refusal::BadArchive.told()), (101, [0; 4]));
     }
 
     #[test]

@@ -1,5 +1,5 @@
-//! Reading: the table of bodies at the edges, and the ends of the sizes.
-use s2xv2::{Refusal, S2Xv2Mode, S2Xv2SatelliteDeliverySystem as Record};
+//! Reading: the table of bodies at the edges, by themselves and in slots, and the ends of the sizes.
+use s2xv2::{read_slot, RawRecord, Refusal, S2Xv2Mode, S2Xv2SatelliteDeliverySystem as Record, Slot};
 
 /// A body of zeros but for these bytes.
 fn body(length: usize, set: &[(usize, u8)]) -> Vec<u8> {
@@ -10,26 +10,63 @@ fn body(length: usize, set: &[(usize, u8)]) -> Vec<u8> {
     bytes
 }
 
-fn short(place: u8, need: usize, have: usize) -> Refusal {
-    Refusal::Short { place, need, have }
+fn short(place: u8, need: usize, have: usize, least: usize) -> Refusal {
+    Refusal::Short { place, need, have, least }
+}
+
+/// Bodies that end inside a part, and what is told of each.
+fn cut() -> [(Vec<u8>, Refusal); 15] {
+    [
+        (body(0, &[]), short(1, 18, 0, 18)),
+        (body(17, &[]), short(1, 18, 17, 18)),
+        (body(17, &[(4, 0x50)]), short(1, 18, 17, 18)),
+        (body(18, &[(4, 0x08)]), short(2, 19, 18, 19)),
+        (body(20, &[(4, 0x10), (6, 0x80)]), short(3, 21, 20, 21)),
+        (body(18, &[(4, 0x20)]), short(4, 19, 18, 19)),
+        (body(18, &[(4, 0x50)]), short(4, 19, 18, 27)),
+        (body(18, &[(5, 0x04)]), short(5, 19, 18, 23)),
+        (body(19, &[(5, 0x04), (18, 0x01)]), short(6, 23, 19, 27)),
+        (body(23, &[(5, 0x04), (18, 0x01)]), short(6, 27, 23, 27)),
+        (body(18, &[(4, 0x58), (5, 0x04)]), short(2, 19, 18, 33)),
+        (body(25, &[(4, 0x40)]), short(7, 26, 25, 26)),
+        (body(25, &[(4, 0x40), (19, 0x40)]), short(7, 26, 25, 26)),
+        (body(26, &[(4, 0x40), (19, 0x40)]), short(8, 29, 26, 30)),
+        (body(29, &[(4, 0x40), (19, 0x40)]), short(9, 30, 29, 30)),
+    ]
 }
 
 #[test]
 fn bodies_that_end_inside_a_part() {
-    let cases: [(Vec<u8>, Refusal); 10] = [
-        (body(0, &[]), short(1, 18, 0)),
-        (body(17, &[]), short(1, 18, 17)),
-        (body(18, &[(4, 0x08)]), short(2, 19, 18)),
-        (body(20, &[(4, 0x10), (6, 0x80)]), short(3, 21, 20)),
-        (body(18, &[(4, 0x20)]), short(4, 19, 18)),
-        (body(18, &[(5, 0x04)]), short(5, 19, 18)),
-        (body(23, &[(5, 0x04), (18, 0x01)]), short(6, 27, 23)),
-        (body(25, &[(4, 0x40)]), short(7, 26, 25)),
-        (body(26, &[(4, 0x40), (19, 0x40)]), short(8, 29, 26)),
-        (body(29, &[(4, 0x40), (19, 0x40)]), short(9, 30, 29)),
-    ];
-    for (body, refusal) in cases {
+    let mut raw = RawRecord::default();
+    for (body, refusal) in cut() {
         assert_eq!(Record::parse(&body), Err(refusal), "{body:?}");
+        assert_eq!(RawRecord::parse(&body), Err(refusal), "{body:?}");
+        assert_eq!(raw.parse_into(&body), Err(refusal), "{body:?}");
+    }
+}
+
+/// A slot that holds a body, with stuffing of so many bytes behind it, or none.
+fn held(body: &[u8], stuffing: usize) -> Vec<u8> {
+    let mut slot = vec![0x7F, body.len() as u8 + 1, 0x24];
+    slot.extend(body);
+    if stuffing > 0 {
+        slot.extend([0x42, stuffing as u8 - 2]);
+        slot.resize(body.len() + 3 + stuffing, 0xFF);
+    }
+    slot
+}
+
+#[test]
+fn slots_whose_body_ends_inside_a_part() {
+    let mut raw = RawRecord::default();
+    for (body, refusal) in cut() {
+        for stuffing in [0, 2, 3, 18, 200] {
+            let mut slot = held(&body, stuffing);
+            let refusal = if slot.len() < Slot::MIN_SIZE { Refusal::Slot } else { refusal };
+            assert_eq!(read_slot(&slot), Err(refusal), "{slot:?}");
+            assert_eq!(raw.read_slot(&slot), Err(refusal), "{slot:?}");
+            assert_eq!(Slot::new(&mut slot).read(), Err(refusal));
+        }
     }
 }
 

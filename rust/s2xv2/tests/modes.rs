@@ -82,6 +82,7 @@ fn every_code_at_its_size_and_one_byte_short() {
             place,
             need: size,
             have: size - 1,
+            least: size,
         };
         assert_eq!(Record::parse(&body[..size - 1]), Err(refused), "mode {code}");
     }

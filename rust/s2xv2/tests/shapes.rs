@@ -1,5 +1,7 @@
-//! Bodies of every shape, each field by its name: what is read, as the typed record and as the raw one, and what is written from either. Any
-//! two fields that stand next to each other in a struct of the boundary differ in one of the shapes.
+//! Bodies of every shape, each field by its name: what is read, as the typed record and as the raw one, and what is written from either;
+//! and what is told of each where it is cut. Any two fields that stand next to each other in a struct of the boundary differ in one of the
+//! shapes.
+use s2xv2::places::short;
 use s2xv2::{read_slot, Job, Polarization, Progress, RawRecord, Refusal, RollOff, S2Xv2Mode, S2Xv2SatelliteDeliverySystem as Record};
 use s2xv2::{S2Xv2Superframe, Slot};
 
@@ -254,12 +256,60 @@ fn every_shape_is_stored_in_a_slot() {
     }
 }
 
+/// Where the tail starts of a body with zeros behind it, up to a length.
+fn with_zeros(body: &[u8], length: usize) -> Result<usize, Refusal> {
+    let mut bytes = body.to_vec();
+    bytes.resize(length, 0);
+    RawRecord::default().parse_into(&bytes)
+}
+
+/// A body that has its core is made whole by zeros up to the least total, but where it ends inside the first eight bytes of a block whose
+/// selector is there and asks for a plan id. A core that is cut may ask for more as soon as it is there.
+#[test]
+fn every_shape_cut_anywhere() {
+    for shape in Shape::all() {
+        let mut bytes = shape.body();
+        let size = bytes.len();
+        bytes.resize(45, 0xFF);
+        for cut in 0..=45 {
+            let body = &bytes[..cut];
+            let read = RawRecord::parse(body);
+            assert_eq!(Record::parse(body).err(), read.err(), "{shape:?}, {cut} bytes");
+            let Err(refusal) = read else {
+                assert!(cut >= size, "{shape:?}, {cut} bytes");
+                continue;
+            };
+            let Refusal::Short { place, need, have, least } = refusal else {
+                panic!("{shape:?}, {cut} bytes: {refusal}");
+            };
+            assert!(have == cut && cut < need && need <= least && least <= size, "{shape:?}: {refusal}");
+            let asks_for_a_plan_id = place == short::SUPERFRAME && shape.plan && cut >= least - 6;
+            let padded = with_zeros(body, least);
+            if place == short::CORE {
+                let then = padded.unwrap_or_else(|refusal| refusal.told()[3]);
+                assert_eq!((least, Ok(then)), (18, with_zeros(body, 64)), "{shape:?}: {refusal}");
+            } else if asks_for_a_plan_id {
+                let again = Refusal::Short {
+                    place: short::BEAMHOPPING_TIME_PLAN_ID,
+                    need: least + 3,
+                    have: least,
+                    least: least + 4,
+                };
+                assert_eq!(padded, Err(again), "{shape:?}: {refusal}");
+            } else {
+                assert_eq!(padded, Ok(least), "{shape:?}: {refusal}");
+            }
+        }
+    }
+}
+
 #[test]
 fn a_refused_body_leaves_the_default_record() {
     let short = Refusal::Short {
         place: 4,
         need: 19,
         have: 18,
+        least: 19,
     };
     let mut body = [0; 18];
     body[4] = 0x20;

@@ -42,6 +42,7 @@ fn a_body_that_ends_inside_a_part() {
         place: 1,
         need: 18,
         have: 0,
+        least: 18,
     };
     assert_eq!(Slot::new(&mut bytes).read(), Err(refusal));
     assert!(Job::begin(&Slot::new(&mut bytes), &Record::default()).is_ok());

@@ -11,7 +11,7 @@ abbrev Inv-loop : tie.InvT-loop
 Inv-loop body₀ out₀ tail k₀ body out k = (length body ≡ length body₀) × (length out ≡ length out₀)
 
 abbrev μ-loop : tie.MeasureT-loop
-μ-loop body₀ out₀ tail k₀ body out k = 22 - k
+μ-loop body₀ out₀ tail k₀ body out k = 28 - k
 
 loop-holds : tie.Need-loop-holds Inv-loop μ-loop
 loop-holds c = search needs

@@ -5,7 +5,7 @@ use mathlib.Core.List.{[], _∷_}
 use lib.ListN.{length}
 use denote.Ref.{now}
 use Rattle.answers.specs.Short.{shortTold}
-use Rattle.s2xv2.specs.Read.{presentIn, bodySize, needs as parts}
+use Rattle.s2xv2.specs.Read.{presentIn, bodySize, leastTotal, shortOf, needs as parts}
 use Rattle.s2xv2.proofs.Reach.{told-long, told-within}
 use borrow.Author.Needs.{needs}
 use Rattle.s2xv2_reader.proofs.parse_answer.Statement.{statement}
@@ -27,12 +27,12 @@ missing-requires : tie.Need-missing-requires
 missing-requires c κs = search needs
 
 returns-2 : tie.Need-returns-2
-unfolding bodySize
+unfolding bodySize leastTotal
 returns-2 c =
     let start = c .before .before .before in
     let s = now (start .before .before .args .sel) in
     let e = simp (c .before .ends-of .ensures, c .before .before .present-in .ensures) at (c .missing .ensures) in
-    _∙_ {b = shortTold (length s) (parts s (presentIn s)) (0 ∷ bodySize s ∷ [])} e (sym (told-within s (start .if1 .left)))
+    _∙_ {b = shortTold (shortOf s) (length s) (parts s (presentIn s)) (0 ∷ bodySize s ∷ [])} e (sym (told-within s (start .if1 .left)))
 
 pub parse-answer-spec : {M : Type 1} → statement M
 parse-answer-spec =

@@ -1,6 +1,5 @@
--- `answers::plain::refusal_out` meets its contract: each number is told as the definition tells it, and there is no fourth.
+-- `answers::plain::refusal_out` meets its contract: each number is told as the definition tells it.
 -- Assumes nothing.
-use Rattle.answers.proofs.Crossing.{no-fourth}
 use borrow.Author.Needs.{needs}
 use Rattle.answers.proofs.plain.refusal_out.Statement.{statement}
 use Rattle.answers.proofs.plain.refusal_out.Tie as tie
@@ -32,16 +31,22 @@ array-read-saturated-4 c = search needs
 saturated-requires-4 : tie.Need-saturated-requires-4
 saturated-requires-4 c κs = search needs
 
+array-read-saturated-5 : tie.Need-array-read-saturated-5
+array-read-saturated-5 c = search needs
+
+saturated-requires-5 : tie.Need-saturated-requires-5
+saturated-requires-5 c κs = search needs
+
 returns : tie.Need-returns
 returns c =
-    let told = c .before .before .before .before .before .told .ensures in
+    let start = c .before .before .before .before in
     simp (
-      c .saturated4 .ensures,
-      c .before .saturated3 .ensures,
-      c .before .before .saturated2 .ensures,
-      c .before .before .before .saturated .ensures,
-      told,
-      no-fourth,
+      c .saturated5 .ensures,
+      c .before .saturated4 .ensures,
+      c .before .before .saturated3 .ensures,
+      c .before .before .before .saturated2 .ensures,
+      start .saturated .ensures,
+      start .before .before .told .ensures,
     )
 
 pub refusal-out-spec : {M : Type 1} → statement M
@@ -57,4 +62,6 @@ refusal-out-spec =
     saturated-requires-3
     array-read-saturated-4
     saturated-requires-4
+    array-read-saturated-5
+    saturated-requires-5
     returns)
