@@ -8,7 +8,7 @@ use Prim.Native.Nat.{ℕ, _≤_, _<_}
 use native.Mathlib.Omega.{arith}
 use lib.ListN.{length, drop, getD}
 use lib.Dec.{ltb, eqb}
-use borrow.Author.Tests.{lt-ltb, le-ltb, ltb-true, ltb-false, eq-eqb, ne-eqb}
+use borrow.Author.Tests.{lt-ltb, le-ltb, ltb-true, ltb-false, eq-eqb}
 use Rattle.answers.proofs.Answers.{refused-number, refused}
 use Rattle.answers.proofs.Short.{Reaches, reaches-told, told-reaches}
 use Rattle.wire.specs.Flags.{when, only}
@@ -73,10 +73,6 @@ module _ (s : List ℕ) where
       go false e =
           let h : length s ≤ 4096 = ltb-false _ _ e in
           (reached (told-reaches (shortOf s) (length s) (needs s (presentIn s)) (0 ∷ bodySize s ∷ []) (ap numberOf (sym (told-within h)) ∙ z)), h)
-
-  -- one that does not reach it shows the default record
-  pub reads-short : length s < bodySize s → readOf s ≡ record { told = readTold s; body = defaultRecord }
-  reads-short h = simp (ne-eqb _ _ (λ z. let d = accepted-reaches z in omega arith))
 
   -- the place that an accepted body tells is where its tail starts
   pub accepted-tail : (t : ℕ) → 0 ∷ t ∷ [] ≡ readTold s → (bodySize s ≡ t) × (t ≤ length s) × (tailOf s ≡ drop t s)

@@ -1,9 +1,7 @@
 // S2Xv2_mode, EN 300 468 Table 144c, and what Table 144b has in each mode.
 ghost use mathlib.Core.Path.{_≡_};
-ghost use mathlib.Core.List.{[], _∷_};
-ghost use Prim.Native.Nat.{_/_, _%_};
-ghost use lib.ListN.{getD};
-ghost use Rattle.wire.specs.Flags.{isOne};
+ghost use Prim.Native.Nat.{_+_, _/_, _%_};
+ghost use Rattle.wire.specs.Flags.{only, isOne};
 ghost use Rattle.s2xv2.specs.Table144c.{modeOf, codeOf, hasSelector, hasTimeslice, hasSuperframe};
 
 // The six codes that the table names, and all others.
@@ -65,7 +63,7 @@ const ROWS: [u8; 16] = [
 
 // What stands in the row of a code; one of more than four bits has none of the parts.
 fn row_at(code: u8) -> u8
-    ensures { λ r. ⌜ r ≡ getD (0 ∷ 1 ∷ 3 ∷ 0 ∷ 4 ∷ 6 ∷ 0 ∷ 0 ∷ 0 ∷ 0 ∷ 0 ∷ 0 ∷ 0 ∷ 0 ∷ 0 ∷ 0 ∷ []) code 0 ⌝ }
+    ensures { λ r. ⌜ r ≡ only (hasSelector (modeOf code)) 1 + only (hasTimeslice (modeOf code)) 2 + only (hasSuperframe (modeOf code)) 4 ⌝ }
 {
     if code < 16 { ROWS[code as usize] } else { NONE }
 }

@@ -2,6 +2,7 @@
 -- parts.
 -- Assumes nothing.
 use borrow.Author.Needs.{needs}
+use Rattle.s2xv2.specs.Table144c.{modeOf}
 use Rattle.s2xv2.proofs.mode.S2Xv2Mode.row.Statement.{statement}
 use Rattle.s2xv2.proofs.mode.S2Xv2Mode.row.Tie as tie
 
@@ -69,21 +70,27 @@ parts-of-requires-7 : tie.Need-parts-of-requires-7
 parts-of-requires-7 c κs = search needs
 
 returns : tie.Need-returns
+unfolding modeOf
 returns c = rw (c .before .before .enum-told .given .1) (rw (c .before .row-at .ensures) at (c .parts-of .ensures))
 
 returns-2 : tie.Need-returns-2
+unfolding modeOf
 returns-2 c = rw (c .before .before .enum-told2 .given .1) (rw (c .before .row-at2 .ensures) at (c .parts-of2 .ensures))
 
 returns-3 : tie.Need-returns-3
+unfolding modeOf
 returns-3 c = rw (c .before .before .enum-told3 .given .1) (rw (c .before .row-at3 .ensures) at (c .parts-of3 .ensures))
 
 returns-4 : tie.Need-returns-4
+unfolding modeOf
 returns-4 c = rw (c .before .before .enum-told4 .given .1) (rw (c .before .row-at4 .ensures) at (c .parts-of4 .ensures))
 
 returns-5 : tie.Need-returns-5
+unfolding modeOf
 returns-5 c = rw (c .before .before .enum-told5 .given .1) (rw (c .before .row-at5 .ensures) at (c .parts-of5 .ensures))
 
 returns-6 : tie.Need-returns-6
+unfolding modeOf
 returns-6 c = rw (c .before .before .enum-told6 .given .1) (rw (c .before .row-at6 .ensures) at (c .parts-of6 .ensures))
 
 returns-7 : tie.Need-returns-7
