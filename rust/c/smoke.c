@@ -827,6 +827,56 @@ static void slots(void) {
     CHECK(told_short(s2xv2_slot_read(slot, 23, &record), 1, 18, 0, 18) && all(&record, sizeof record, 0));
 }
 
+/* Descriptors by tag and length, laid one behind the other over zeros; 0x24 is the third byte of a 0x7F. */
+static void lay(uint8_t *slot, size_t size, const uint8_t *heads, size_t count) {
+    size_t at = 0, k;
+    memset(slot, 0, size);
+    for (k = 0; k + 1 < count && at + 2 < size; k += 2) {
+        slot[at] = heads[k];
+        slot[at + 1] = heads[k + 1];
+        slot[at + 2] = heads[k] == S2XV2_TAG ? S2XV2_TAG_EXTENSION : 0;
+        at += 2 + (size_t)heads[k + 1];
+    }
+}
+
+/* Stuffing may stand on either side of the descriptor; a second one of ours, a foreign tag or a wrong end may not. */
+static void stuffed_slots(void) {
+    static const uint8_t short_body[] = {0x42, 16, 0x7F, 1};
+    static const uint8_t front[] = {0x42, 10, 0x7F, 21, 0x42, 7};
+    static const uint8_t alone[] = {0x42, 10, 0x42, 30};
+    static const uint8_t bad[][6] = {
+        {0x42, 10, 0x7F, 29, 0, 0}, {0x42, 10, 0x7F, 31, 0, 0}, {0x7F, 19, 0x7F, 21, 0, 0}, {0x42, 10, 0x48, 30, 0, 0}, {0x42, 2, 0x7F, 0, 0x42, 36},
+    };
+    uint8_t slot[44];
+    S2xv2Record record = unread();
+    S2xv2Record read = unread();
+    S2xv2Job job = unbegun();
+    S2xv2Part part;
+    size_t k;
+    lay(slot, 21, short_body, sizeof short_body);
+    CHECK(told_short(read_slot(slot, 21), 1, 18, 0, 18));
+
+    lay(slot, 44, front, sizeof front);
+    slot[12 + 3 + 17] = 7;
+    CHECK(told(s2xv2_slot_read(slot, 44, &record), S2XV2_ACCEPTED, 33, 2, 0) && record.symbol_rate == 7);
+    part = s2xv2_slot_reserved_tail(slot, 44);
+    CHECK(part.place == 33 && part.length == 2);
+    CHECK(told(s2xv2_begin(slot, 44, &record, NULL, 0, &job), S2XV2_ACCEPTED, 46, 0, 0));
+    CHECK(s2xv2_step_in_place(&job, slot, 44, 1).stores == 1 && told(read_slot(slot, 44), S2XV2_ACCEPTED, 33, 2, 0));
+    CHECK(s2xv2_step_in_place(&job, slot, 44, 1).stores == 1 && told(read_slot(slot, 44), S2XV2_ACCEPTED, 0, 0, 0));
+    CHECK(s2xv2_step_in_place(&job, slot, 44, 44).done == 1 && slot[0] == S2XV2_TAG);
+    CHECK(told(s2xv2_slot_read(slot, 44, &read), S2XV2_ACCEPTED, 21, 0, 0) && read.symbol_rate == 7);
+
+    lay(slot, 44, alone, sizeof alone);
+    CHECK(told(read_slot(slot, 44), S2XV2_ACCEPTED, 0, 0, 0));
+    for (k = 0; k < sizeof bad / sizeof *bad; k++) {
+        lay(slot, 44, bad[k], bad[k][4] == 0 ? 4 : 6);
+        CHECK(told(read_slot(slot, 44), S2XV2_SLOT, 0, 0, 0) && told(begun(slot, 44, &record, NULL, 0), S2XV2_SLOT, 0, 0, 0));
+        part = s2xv2_slot_reserved_tail(slot, 44);
+        CHECK(part.place == 0 && part.length == 0);
+    }
+}
+
 static void begins(void) {
     uint8_t slot[22];
     S2xv2Record record = zeros();
@@ -1044,6 +1094,7 @@ int main(void) {
     absentees();
     lengths();
     slots();
+    stuffed_slots();
     begins();
     steps();
     forgeries();

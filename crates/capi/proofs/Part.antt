@@ -3,6 +3,7 @@
 use mathlib.Core.Path.{_≡_, refl, sym, ap, _∙_}
 use mathlib.Core.Bool.{Bool, true, false}
 use mathlib.Core.List.{List, [], _∷_}
+use mathlib.Core.Option.{Option, none, some}
 use Prim.Native.Nat.{ℕ, suc, zero, _+_, _-_}
 use native.Mathlib.Omega.{arith}
 use borrow.Author.Tests.{eqb-true}
@@ -14,9 +15,8 @@ use Rattle.answers.specs.Answer.{numberOf}
 use Rattle.s2xv2.specs.Read.{readTold, bodySize, tailOf}
 use Rattle.s2xv2.proofs.Reach.{accepted-reaches, told-accepted}
 use Rattle.s2xv2_reader.proofs.Laws.{rest}
-use Rattle.form.specs.Envelope.{stuffingTag}
-use Rattle.form.specs.Form.{byteAt, bodyIn, goodForm}
-use Rattle.slot.specs.Read.{placed, showsBody, showsEmpty, showsNone, shown}
+use Rattle.form.specs.Form.{byteAt, bodyAt, goodForm, ours}
+use Rattle.slot.specs.Read.{placed, showsBody, showsOurs, showsNone, shown}
 use Rattle.slot.specs.Part.{noPart, toldPart, slotPart}
 use Rattle.capi.specs.Part.{partIn, tailPart}
 
@@ -48,27 +48,30 @@ twice t zero xs = let q : t + 0 ≡ t = omega arith in ap (λ (k : ℕ). drop k 
 twice t (suc m) [] = drop-nil (t + suc m) ∙ sym (drop-nil t)
 twice t (suc m) (x ∷ xs) = let q : t + suc m ≡ suc (t + m) = omega arith in ap (λ (k : ℕ). drop k (x ∷ xs)) q ∙ twice t m xs
 
--- the reader's answer for the body, as it is placed in the slot
-in-body : (s : List ℕ) → partIn (toldPart (placed (length (bodyIn s)) (readTold (bodyIn s)))) s ≡ tailOf (bodyIn s)
-in-body s = go (eqb (numberOf (readTold (bodyIn s))) 0) refl
-  where
-    t : ℕ
-    t = getD (readTold (bodyIn s)) 1 0
+-- the reader's answer for the body of the descriptor at a place, as it is placed in the slot
+module _ (s : List ℕ) (at : ℕ) where
+  abbrev body : List ℕ
+  body = bodyAt s at
 
-    go : (b : Bool) → eqb (numberOf (readTold (bodyIn s))) 0 ≡ b
-        → partIn (toldPart (when b (0 ∷ (t + 3) ∷ (length (bodyIn s) - t) ∷ []) (readTold (bodyIn s)))) s ≡ when b (drop (bodySize (bodyIn s)) (bodyIn s)) []
-    go true e =
-        let h = accepted-reaches (bodyIn s) (eqb-true _ _ e) in
-        let q : t ≡ bodySize (bodyIn s) = ap (λ (l : List ℕ). getD l 1 0) (told-accepted (bodyIn s) (h .0) (h .1)) in
-        ap (λ (l : List ℕ). take (length (bodyIn s) - t) l) (twice t 3 s) ∙ behind (byteAt s 1 - 1) t (drop 3 s) ∙ ap (λ (k : ℕ). drop k (bodyIn s)) q
-    go false e = simp e
+  abbrev t : ℕ
+  t = getD (readTold body) 1 0
+
+  in-body : partIn (toldPart (placed at (length body) (readTold body))) s ≡ tailOf body
+  in-body = go (eqb (numberOf (readTold body)) 0) refl
+    where
+      go : (b : Bool) → eqb (numberOf (readTold body)) 0 ≡ b
+          → partIn (toldPart (when b (0 ∷ (t + (at + 3)) ∷ (length body - t) ∷ []) (readTold body))) s ≡ when b (drop (bodySize body) body) []
+      go true e =
+          let h = accepted-reaches body (eqb-true _ _ e) in
+          let q : t ≡ bodySize body = ap (λ (l : List ℕ). getD l 1 0) (told-accepted body (h .0) (h .1)) in
+          ap (λ (l : List ℕ). take (length body - t) l) (twice t (at + 3) s) ∙ behind (byteAt s (at + 1) - 1) t (drop (at + 3) s) ∙ ap (λ (k : ℕ). drop k body) q
+      go false e = simp e
 
 pub cut-slot : (s : List ℕ) → partIn (slotPart s) s ≡ shown s .tail
 unfolding slotPart shown showsBody
-cut-slot s = go (goodForm s) (eqb (byteAt s 0) stuffingTag)
+cut-slot s = go (goodForm s) (ours s)
   where
-    go : (g t : Bool) → partIn (toldPart (when g (when t showsEmpty (showsBody (bodyIn s))) showsNone .reading .told)) s
-        ≡ when g (when t showsEmpty (showsBody (bodyIn s))) showsNone .tail
-    go true true = refl
-    go true false = in-body s
-    go false t = refl
+    go : (g : Bool) (o : Option ℕ) → partIn (toldPart (when g (showsOurs s o) showsNone .reading .told)) s ≡ when g (showsOurs s o) showsNone .tail
+    go true none = refl
+    go true (some at) = in-body s at
+    go false o = refl

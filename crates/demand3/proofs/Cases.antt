@@ -15,7 +15,8 @@ use Rattle.s2xv2.specs.ListB.{unwritable}
 use Rattle.s2xv2.specs.Write.{writeTold}
 use Rattle.s2xv2.proofs.Cases.{Row, _gives_, right, table}
 use Rattle.form.specs.Envelope.{stuffing}
-use Rattle.form.specs.Form.{goodSize, goodFirst, goodRest, goodForm}
+use Rattle.form.specs.Walk.{walkFrom, descriptors, stop}
+use Rattle.form.specs.Form.{goodSize, isOurs, goodForm}
 use Rattle.job.specs.Job.{fitsIn, fair}
 use Rattle.job.specs.Step.{stepOf}
 use Rattle.begin.specs.Begin.{beginTold, fitTold, stageTold, beginOf}
@@ -38,7 +39,7 @@ slotTable =
 
 -- Every row of the whole table, bodies and slots, is right.
 pub cases : right (table ++ slotTable) ≡ true
-unfolding beginTold fitTold stageTold beginOf stepOf fair fitsIn goodForm goodSize goodFirst goodRest stuffing defaultRecord encode encodedLength partsOf byteParts scramblingParts bondParts superframeParts inconsistency unwritable readTold presentIn bodySize leastTotal recordAt superframeAt modeOf writeTold
+unfolding beginTold fitTold stageTold beginOf stepOf fair fitsIn goodForm goodSize isOurs walkFrom descriptors stop stuffing defaultRecord encode encodedLength partsOf byteParts scramblingParts bondParts superframeParts inconsistency unwritable readTold presentIn bodySize leastTotal recordAt superframeAt modeOf writeTold
 cases = refl
 
 -- The two rows hold of every slot in good form and every record with a body of 18 bytes that lists A and B pass.

@@ -47,34 +47,38 @@ module _ (n d : ℕ) (middle : List Store) (s : List ℕ) where
   after-all b right = run-append middle _ (under n s) ∙ rw right
 
 -- ---- the readings by k
-pub after-none : {A : Type 0} (a e z : A) (m : ℕ) → readsAfter a e z m 0 ≡ a
+pub after-none : {A : Type 0} (a f e z : A) (m : ℕ) → readsAfter a f e z m 0 ≡ a
 unfolding readsAfter
-after-none a e z m = refl
+after-none a f e z m = refl
 
-pub after-between : {A : Type 0} (a e z : A) (m k : ℕ) → 0 < k → k < m → readsAfter a e z m k ≡ e
+pub after-first : {A : Type 0} (a f e z : A) (m : ℕ) → readsAfter a f e z m 1 ≡ f
 unfolding readsAfter
-after-between a e z m k p h = rw (ne-eqb k 0 (omega arith), lt-ltb k m h)
+after-first a f e z m = refl
 
-pub after-last : {A : Type 0} (a e z : A) (m k : ℕ) → 0 < k → m ≤ k → readsAfter a e z m k ≡ z
+pub after-between : {A : Type 0} (a f e z : A) (m k : ℕ) → 1 < k → k < m → readsAfter a f e z m k ≡ e
 unfolding readsAfter
-after-last a e z m k p h = rw (ne-eqb k 0 (omega arith), le-ltb k m h)
+after-between a f e z m k p h = rw (ne-eqb k 0 (omega arith), ne-eqb k 1 (omega arith), lt-ltb k m h)
+
+pub after-last : {A : Type 0} (a f e z : A) (m k : ℕ) → 1 < k → m ≤ k → readsAfter a f e z m k ≡ z
+unfolding readsAfter
+after-last a f e z m k p h = rw (ne-eqb k 0 (omega arith), ne-eqb k 1 (omega arith), le-ltb k m h)
 
 -- ---- what is asked of the form, phase by phase: b is what stands behind the first two bytes in the end
-pub record Phases {A : Type 0} (Reads : List ℕ → A → Type 0) (n d : ℕ) (s b : List ℕ) (before empty last : A) : Type 0 where
+pub record Phases {A : Type 0} (Reads : List ℕ → A → Type 0) (n d : ℕ) (s b : List ℕ) (before first empty last : A) : Type 0 where
   pub none : Reads s before
-  pub one : Reads (set s 0 stuffingTag) empty
+  pub one : Reads (set s 0 stuffingTag) first
   pub cover : (t : List ℕ) → length t ≡ n → getD t 0 0 ≡ stuffingTag → getD t 1 0 ≡ n - 2 → Reads t empty
   pub late : Reads (stuffingTag ∷ (d - 2) ∷ b) empty
   pub all : Reads (tag ∷ (d - 2) ∷ b) last
 
 -- ---- the run is safe, where the middle stays behind the first two bytes and leaves b there
-module _ {A : Type 0} (Reads : List ℕ → A → Type 0) (n d : ℕ) (s b : List ℕ) (before empty last : A) (P : Phases Reads n d s b before empty last)
+module _ {A : Type 0} (Reads : List ℕ → A → Type 0) (n d : ℕ) (s b : List ℕ) (before first empty last : A) (P : Phases Reads n d s b before first empty last)
     (len : length s ≡ n) (two : 2 ≤ n) (middle : List Store) (w : Within 2 n middle) (right : run middle (under n s) ≡ stuffingTag ∷ (n - 2) ∷ b) where
   abbrev At : ℕ → Type 0
-  At k = Reads (run (take k (covered n d middle)) s) (readsAfter before empty last (length middle + 4) k)
+  At k = Reads (run (take k (covered n d middle)) s) (readsAfter before first empty last (length middle + 4) k)
 
   one-made : At (suc zero)
-  one-made = rw (after-one n d middle s, after-between before empty last (length middle + 4) 1 (omega arith) (omega arith)) (P .one)
+  one-made = rw (after-one n d middle s, after-first before first empty last (length middle + 4)) (P .one)
 
   -- the cover holds while the middle is stored
   some-made : (m : ℕ) → m ≤ length middle → At (suc (suc m))
@@ -89,17 +93,17 @@ module _ {A : Type 0} (Reads : List ℕ → A → Type 0) (n d : ℕ) (s b : Lis
       let e : getD t 1 0 ≡ n - 2 =
       run-below 2 n (take m middle) (under n s) v 1 0 (omega arith)
       ∙ getD-set-same (set s 0 stuffingTag) 1 (n - 2) 0 (rw length-set (omega arith)) in
-      rw (after-some n d middle s m h, after-between before empty last (length middle + 4) (suc (suc m)) (omega arith) (omega arith)) (P .cover t l a e)
+      rw (after-some n d middle s m h, after-between before first empty last (length middle + 4) (suc (suc m)) (omega arith) (omega arith)) (P .cover t l a e)
 
   late-made : At (suc (suc (length middle + 1)))
   unfolding run
   late-made =
-      rw (after-more n d middle s 1, right, after-between before empty last (length middle + 4) (suc (suc (length middle + 1))) (omega arith) (omega arith)) (P .late)
+      rw (after-more n d middle s 1, right, after-between before first empty last (length middle + 4) (suc (suc (length middle + 1))) (omega arith) (omega arith)) (P .late)
 
   all-made : At (suc (suc (length middle + 2)))
   unfolding run
   all-made =
-      rw (after-more n d middle s 2, right, after-last before empty last (length middle + 4) (suc (suc (length middle + 2))) (omega arith) (omega arith)) (P .all)
+      rw (after-more n d middle s 2, right, after-last before first empty last (length middle + 4) (suc (suc (length middle + 2))) (omega arith) (omega arith)) (P .all)
 
   by-size : (m : ℕ) → suc (suc m) ≤ length middle + 4 → Dec (m ≤ length middle) → At (suc (suc m))
   by-size m h (yes l) = some-made m l
@@ -112,7 +116,7 @@ module _ {A : Type 0} (Reads : List ℕ → A → Type 0) (n d : ℕ) (s b : Lis
 
   within-all : (k : ℕ) → k ≤ length middle + 4 → At k
   unfolding run
-  within-all zero h = rw (after-none before empty last (length middle + 4)) (P .none)
+  within-all zero h = rw (after-none before first empty last (length middle + 4)) (P .none)
   within-all (suc zero) h = one-made
   within-all (suc (suc m)) h = by-size m h (decLe m (length middle))
 
@@ -121,8 +125,8 @@ module _ {A : Type 0} (Reads : List ℕ → A → Type 0) (n d : ℕ) (s b : Lis
   beyond k h =
       let e : take k (covered n d middle) ≡ take (length middle + 4) (covered n d middle) =
       take-all k (covered n d middle) (rw covered-length (omega arith)) ∙ sym (take-all (length middle + 4) (covered n d middle) (rw covered-length (omega arith))) in
-      rw (e, after-last before empty last (length middle + 4) k (omega arith) (omega arith))
-      (rw (after-last before empty last (length middle + 4) (length middle + 4) (omega arith) (omega arith)) at (within-all (length middle + 4) (omega arith)))
+      rw (e, after-last before first empty last (length middle + 4) k (omega arith) (omega arith))
+      (rw (after-last before first empty last (length middle + 4) (length middle + 4) (omega arith) (omega arith)) at (within-all (length middle + 4) (omega arith)))
 
   pub safe : (k : ℕ) → At k
   safe k = by (decLe k (length middle + 4))

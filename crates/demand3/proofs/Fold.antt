@@ -7,7 +7,9 @@ use mathlib.Core.List.{List, [], _∷_, _++_, append-nil}
 use mathlib.Core.Bool.{true}
 use Prim.Native.Nat.{ℕ, suc, _+_, _-_, _≤_}
 use native.Mathlib.Omega.{arith}
-use lib.ListN.{length, take, drop, drop-of-length-le}
+use native.Mathlib.Decide.{ℕ-discrete}
+use borrow.Author.Tests.{eq-eqb, ne-eqb}
+use lib.ListN.{length, take, drop, set, drop-of-length-le}
 use lib.Seq.{sets-eq}
 use Rattle.wire.specs.Parts.{sizes}
 use Rattle.s2xv2.specs.declared.record.S2Xv2SatelliteDeliverySystem.{S2Xv2SatelliteDeliverySystem}
@@ -19,17 +21,25 @@ use Rattle.stores.specs.declared.store.Store.{Store}
 use Rattle.stores.specs.Run.{run, upwards, Within}
 use Rattle.stores.proofs.Laws.{upwards-length, upwards-run, upwards-within}
 use Rattle.form.specs.Envelope.{tag, stuffingTag, envelope, holding}
-use Rattle.form.specs.Form.{goodForm}
+use Rattle.form.specs.Form.{byteAt, goodForm}
 use Rattle.slot.specs.Read.{Shown, showsEmpty, showsBody, placed, shown, ReadsAs}
 use Rattle.form.proofs.GoodForm.{form-size}
-use Rattle.slot.proofs.Laws.{cover, retag, image}
+use Rattle.slot.proofs.Laws.{cover, retag, retag-same, image}
 use Rattle.job.specs.Stores.{behind, covered, stores}
 use Rattle.job.specs.Job.{fitsIn}
 use Rattle.begin.specs.Begin.{sizeOf, descriptorOf}
 use Rattle.job.proofs.Lists.{behind-length}
 use Rattle.job.proofs.Fairness.{fits-facts}
-use Rattle.demand3.specs.Demand3.{Ready, jobStores, holds, readsAfter, due}
+use Rattle.demand3.specs.Demand3.{Ready, jobStores, holds, afterFirst, readsAfter, due}
 use Rattle.demand3.proofs.Covered.{under, after-all, Phases, safe}
+
+-- ---- the first store, by the first tag
+first-made : (s : List ℕ) → goodForm s ≡ true → ReadsAs (set s 0 stuffingTag) (afterFirst s)
+first-made s g = by (ℕ-discrete (byteAt s 0) tag)
+  where
+    by : Dec (byteAt s 0 ≡ tag) → ReadsAs (set s 0 stuffingTag) (afterFirst s)
+    by (yes t) = rw (eq-eqb _ _ t) (retag s g t)
+    by (no t) = rw (ne-eqb _ _ t, retag-same s g t) (record { form = g; reads = refl })
 
 -- ---- any body, and any middle
 module _ (s body : List ℕ) (fits : fitsIn (length (envelope body)) (length s) ≡ true) where
@@ -42,17 +52,17 @@ module _ (s body : List ℕ) (fits : fitsIn (length (envelope body)) (length s) 
 
   -- THE ONE PLACE that meets the laws of the form
   phases : goodForm s ≡ true
-      → Phases ReadsAs (length s) (length (envelope body)) s (behind (length s) (envelope body)) (shown s) showsEmpty (showsBody body)
+      → Phases ReadsAs (length s) (length (envelope body)) s (behind (length s) (envelope body)) (shown s) (afterFirst s) showsEmpty (showsBody 0 body)
   phases g =
       let f = fits-facts (length (envelope body)) (length s) fits in
       let n = form-size s g in
-      let fin : ReadsAs (tag ∷ (length (envelope body) - 2) ∷ behind (length s) (envelope body)) (showsBody body) =
+      let fin : ReadsAs (tag ∷ (length (envelope body) - 2) ∷ behind (length s) (envelope body)) (showsBody 0 body) =
       rw uncovered (image (length s) body (n .0) (n .1) (f .0) (f .1)) in
       record {
         none = record { form = g; reads = refl };
-        one = retag s g;
+        one = first-made s g;
         cover = λ t l a e. cover t (omega arith) (omega arith) a (omega arith);
-        late = retag (tag ∷ (length (envelope body) - 2) ∷ behind (length s) (envelope body)) (fin .form);
+        late = retag (tag ∷ (length (envelope body) - 2) ∷ behind (length s) (envelope body)) (fin .form) refl;
         all = fin;
       }
 
@@ -63,10 +73,10 @@ module _ (s body : List ℕ) (fits : fitsIn (length (envelope body)) (length s) 
 
     pub middle-safe : goodForm s ≡ true → Within 2 (length s) middle
         → run middle (under (length s) s) ≡ stuffingTag ∷ (length s - 2) ∷ behind (length s) (envelope body)
-        → (k : ℕ) → ReadsAs (run (take k (covered (length s) (length (envelope body)) middle)) s) (readsAfter (shown s) showsEmpty (showsBody body) (length middle + 4) k)
+        → (k : ℕ) → ReadsAs (run (take k (covered (length s) (length (envelope body)) middle)) s) (readsAfter (shown s) (afterFirst s) showsEmpty (showsBody 0 body) (length middle + 4) k)
     middle-safe g w right =
         let n = form-size s g in
-        safe ReadsAs (length s) (length (envelope body)) s (behind (length s) (envelope body)) (shown s) showsEmpty (showsBody body) (phases g) refl (omega arith) middle w right
+        safe ReadsAs (length s) (length (envelope body)) s (behind (length s) (envelope body)) (shown s) (afterFirst s) showsEmpty (showsBody 0 body) (phases g) refl (omega arith) middle w right
 
 -- ---- the job's middle: every byte is stored, upwards
 up-right : (n : ℕ) (b s : List ℕ) → length s ≡ n → length b ≡ n - 2 → 2 ≤ n → run (upwards 2 b) (under n s) ≡ stuffingTag ∷ (n - 2) ∷ b
@@ -97,7 +107,7 @@ module _ (s body : List ℕ) (fits : fitsIn (length (envelope body)) (length s) 
   ends t e = middle-ends s body fits middle t (right t e)
 
   pub body-safe : goodForm s ≡ true → (k : ℕ)
-      → ReadsAs (run (take k (stores (length s) (envelope body))) s) (readsAfter (shown s) showsEmpty (showsBody body) (length s + 2) k)
+      → ReadsAs (run (take k (stores (length s) (envelope body))) s) (readsAfter (shown s) (afterFirst s) showsEmpty (showsBody 0 body) (length s + 2) k)
   unfolding stores
   body-safe g k =
       let n = form-size s g in
@@ -114,7 +124,7 @@ pub fits-it : {s : List ℕ} {r : S2Xv2SatelliteDeliverySystem} {tail : List ℕ
 fits-it {s} {r} {tail} R = rw (size-is r tail) (R .fits)
 
 -- what the slot's body shows is the record and the tail
-shows-it : {s : List ℕ} {r : S2Xv2SatelliteDeliverySystem} {tail : List ℕ} → Ready s r tail → showsBody (encode r tail) ≡ holds r tail
+shows-it : {s : List ℕ} {r : S2Xv2SatelliteDeliverySystem} {tail : List ℕ} → Ready s r tail → showsBody 0 (encode r tail) ≡ holds r tail
 unfolding showsBody encodedLength
 shows-it {s} {r} {tail} R =
     let n = form-size s (R .form) in
@@ -124,11 +134,12 @@ shows-it {s} {r} {tail} R =
     let z = encode-length r tail in
     let q : length (encode r tail) - sizes (partsOf r) ≡ length tail = omega arith in
     ap {B = Shown} (λ (x : Reading). record {
-      reading = record { told = placed (length (encode r tail)) (x .told); body = x .body };
+      reading = record { told = placed 0 (length (encode r tail)) (x .told); body = x .body };
       tail = tailOf (encode r tail);
     }) e
     ∙ rw (q, tail-encode r tail (R .consistent) (R .writable) (R .held) (R .bytes) l)
 
--- DEMAND 3. After any number of the job's stores the slot is in good form, and reads as before, as empty, or as that record and tail.
+-- DEMAND 3. After any number of the job's stores the slot is in good form, and reads as before, as empty, or as that record and tail: which one is said by
+-- the number of stores, and after the first one by the slot's first tag.
 pub demand3 : {s : List ℕ} {r : S2Xv2SatelliteDeliverySystem} {tail : List ℕ} → Ready s r tail → (k : ℕ) → ReadsAs (run (take k (jobStores s r tail)) s) (due s r tail k)
 demand3 {s} {r} {tail} R k = rw (← shows-it R) (body-safe s (encode r tail) (fits-it R) (R .form) k)

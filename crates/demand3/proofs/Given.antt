@@ -16,7 +16,7 @@ use Rattle.s2xv2.specs.Held.{Held}
 use Rattle.form.specs.Envelope.{stuffing}
 use Rattle.form.specs.Form.{goodForm}
 use Rattle.form.proofs.Stuffing.{stuffing-length, stuffing-tag, stuffing-size}
-use Rattle.form.proofs.Laws.{cover-form}
+use Rattle.slot.proofs.Laws.{cover}
 use Rattle.job.specs.declared.job.Job.{Job}
 use Rattle.job.specs.Job.{fair}
 use Rattle.job.proofs.Fairness.{fair-facts, facts-fits}
@@ -63,7 +63,7 @@ zeros-size d h = let l = length-replicate {A = ℕ} (d - 21) 0 in omega arith
 empty-form : (n : ℕ) → 21 ≤ n → n ≤ 257 → goodForm (stuffing n) ≡ true
 empty-form n l h =
     let q = stuffing-length n in
-    cover-form (stuffing n) (rw q l) (rw q h) (stuffing-tag n 0 refl (omega arith)) (rw (q, stuffing-size n 1 refl (omega arith)) (omega arith))
+    cover (stuffing n) (rw q l) (rw q h) (stuffing-tag n 0 refl (omega arith)) (rw (q, stuffing-size n 1 refl (omega arith)) (omega arith)) .form
 
 module _ (j : Job) (n : ℕ) (e : fair j n ≡ true) where
   there : Ready (stuffing n) defaultRecord (zeros (j .«descriptor_size»))

@@ -2,6 +2,7 @@
 -- `Ready`       a slot is in good form, and a record is one that the writer accepts and that fits
 -- `jobStores`   the stores of the job that is begun there
 -- `holds`       what a slot shows that holds a record and its tail
+-- `afterFirst`  what a slot reads as after the first store alone
 -- `readsAfter`  what a slot reads as after k of m stores
 -- `due`         that for the stores of a job
 use Prim.Native.Nat.{ℕ, _+_}
@@ -20,8 +21,8 @@ use Rattle.s2xv2.specs.ListA.{inconsistency}
 use Rattle.s2xv2.specs.ListB.{unwritable}
 use Rattle.s2xv2.specs.Carried.{carried}
 use Rattle.stores.specs.declared.store.Store.{Store}
-use Rattle.form.specs.Envelope.{envelopeSize}
-use Rattle.form.specs.Form.{goodForm}
+use Rattle.form.specs.Envelope.{tag, envelopeSize}
+use Rattle.form.specs.Form.{byteAt, goodForm}
 use Rattle.slot.specs.Read.{Shown, showsEmpty, shown}
 use Rattle.job.specs.Stores.{stores}
 use Rattle.job.specs.Job.{fitsIn}
@@ -48,10 +49,14 @@ holds r tail = record {
   tail = tail;
 }
 
--- as before if no store was made, as the last if all of the m were, and as empty otherwise
-unfoldable pub readsAfter : {A : Type 0} → A → A → A → ℕ → ℕ → A
-readsAfter before empty last m k = when (eqb k 0) before (when (ltb k m) empty last)
+-- empty if its first tag was 0x7F, and as before otherwise
+abbrev pub afterFirst : List ℕ → Shown
+afterFirst s = when (eqb (byteAt s 0) tag) showsEmpty (shown s)
+
+-- as before if no store was made, as `first` after the first alone, as the last if all of the m were made, and as empty otherwise
+unfoldable pub readsAfter : {A : Type 0} → A → A → A → A → ℕ → ℕ → A
+readsAfter before first empty last m k = when (eqb k 0) before (when (eqb k 1) first (when (ltb k m) empty last))
 
 -- .. for the stores of a job
 abbrev pub due : List ℕ → S2Xv2SatelliteDeliverySystem → List ℕ → ℕ → Shown
-due s r tail k = readsAfter (shown s) showsEmpty (holds r tail) (length s + 2) k
+due s r tail k = readsAfter (shown s) (afterFirst s) showsEmpty (holds r tail) (length s + 2) k

@@ -1,73 +1,92 @@
--- The laws of good form that all above it goes by: each holds by the tests of the form at the bytes in question.
+-- The laws of good form that all above it goes by, over the descriptors that cover a slot (`Good`).
 -- Assumes nothing.
--- `form-body` says what a slot in form has behind a tag of ours; `cover-form` that a stuffing descriptor over the whole slot puts it in form
--- whatever stands behind its two bytes; `retag-form` that it stays in form when the first tag becomes stuffing's; `holding-form` that a
--- descriptor of ours with stuffing behind it is in form.
-use mathlib.Core.Path.{_≡_, refl, sym, ap, _∙_}
+-- `cover` says that a stuffing descriptor over the whole slot puts it in form, with none of ours, whatever stands behind its two bytes; `retag` what
+-- the form is when the first tag becomes stuffing's; `ours-there` what stands at the place of ours; `image` that a descriptor of ours with
+-- stuffing behind it is in form.
+use mathlib.Core.Path.{_≡_, refl, sym, ap, subst, _∙_}
 use mathlib.Core.List.{List}
+use mathlib.Core.Option.{Option, none, some}
 use mathlib.Core.Logic.{⊎-elim}
-use mathlib.Core.Bool.{Bool, true, false, _||_}
-use Prim.Native.Nat.{ℕ, suc, _+_, _-_, _≤_, _<_}
+use Prim.Native.Nat.{ℕ, zero, suc, _+_, _-_, _≤_, _<_}
 use native.Mathlib.Nat.{eq-or-lt-of-le, add-zero}
 use native.Mathlib.Omega.{arith}
-use borrow.Author.Tests.{ne-eqb, eqb-true}
-use lib.Dec.{eqb}
 use lib.ListN.{length, getD, set, length-set, length-append}
-use lib.Seq.{getD-set-other, getD-set-same, getD-append-add, take-at}
-use Rattle.form.specs.Envelope.{tag, extension, stuffingTag, envelope, stuffing, holding}
-use Rattle.form.specs.Form.{byteAt, all, bodyIn, goodFirst, oursTests, goodRest, stuffedTests, goodForm}
-use Rattle.form.proofs.Tests.{all-each, from-tests}
+use lib.Seq.{getD-set-other, getD-set-same, getD-append-add, set-getD, take-at}
+use Rattle.form.specs.Envelope.{tag, stuffingTag, envelope, stuffing, holding}
+use Rattle.form.specs.Form.{byteAt, bodyAt}
+use Rattle.form.specs.Bytewise.{behind, Upto}
+use Rattle.form.specs.Bytewise as U
 use Rattle.form.proofs.Stuffing.{stuffing-length, stuffing-tag, stuffing-size}
-use Rattle.form.proofs.GoodForm.{facts-size, first-stuffing, first-ours, rest-end, rest-stuffing, form-facts, facts-form, form-size}
+use Rattle.form.proofs.Answers.{Good, none-some, some-same}
 
--- ---- a slot in form whose first tag is not stuffing's: its body is there, whole
-or-right : (a b : Bool) → (a || b) ≡ true → a ≡ false → b ≡ true
-or-right true b e f = absurd (let z : _≡_ {A = ℕ} 0 1 = cc in omega arith)
-or-right false b e f = e
+-- ---- a cover
+pub cover : (s : List ℕ) → 21 ≤ length s → length s ≤ 257 → byteAt s 0 ≡ stuffingTag → byteAt s 1 + 2 ≡ length s → Good s none
+cover s l h t e = record { least = l; most = h; upto = U.stuffing {at = 0} {e = length s} U.start t (omega arith) (omega arith) }
 
-first-length : (s : List ℕ) → goodFirst s ≡ true → (byteAt s 0 ≡ stuffingTag → ⊥) → 1 ≤ byteAt s 1
-unfolding goodFirst
-first-length s e t =
-    let f = all-each (oursTests s) (or-right (eqb (byteAt s 0) stuffingTag) (all (oursTests s)) e (ne-eqb _ _ t)) in omega (arith, from-tests)
+-- ---- the first tag
 
-rest-within : (s : List ℕ) (e : ℕ) → goodRest s e ≡ true → e ≤ length s
-unfolding goodRest
-rest-within s e q = by-end (eqb e (length s)) refl
-  where
-    by-end : (b : Bool) → eqb e (length s) ≡ b → e ≤ length s
-    by-end true h = let l = eqb-true e (length s) h in omega arith
-    by-end false h =
-        let f = all-each (stuffedTests s e) (or-right (eqb e (length s)) (all (stuffedTests s e)) q h) in
-        omega (arith, from-tests)
+-- where it is ours, the one of ours is there
+first-ours : (s : List ℕ) (e : ℕ) (m : Option ℕ) → byteAt s 0 ≡ tag → Upto s e m → 0 < e → m ≡ some 0
+first-ours s e m t U.start h = absurd (omega arith)
+first-ours s e m t (U.stuffing {at = zero} u x q l) h = absurd (omega arith)
+first-ours s e m t (U.stuffing {at = suc a} {m = k} u x q l) h = first-ours s (suc a) k t u (omega arith)
+first-ours s e m t (U.ours {at = zero} u x y z q l) h = refl
+first-ours s e m t (U.ours {at = suc a} u x y z q l) h = absurd (none-some none 0 refl (first-ours s (suc a) none t u (omega arith)))
 
-pub form-body : (s : List ℕ) → goodForm s ≡ true → (byteAt s 0 ≡ stuffingTag → ⊥) → (1 ≤ byteAt s 1) × (byteAt s 1 + 2 ≤ length s)
-form-body s e t = let f = form-facts s e in (first-length s (f .first) t, rest-within s (byteAt s 1 + 2) (f .rest))
+-- where it is not, it is stuffing's
+first-stuffing : (s : List ℕ) (e : ℕ) (m : Option ℕ) → Upto s e m → 0 < e → (byteAt s 0 ≡ tag → ⊥) → byteAt s 0 ≡ stuffingTag
+first-stuffing s e m U.start h n = absurd (omega arith)
+first-stuffing s e m (U.stuffing {at = zero} u x q l) h n = x
+first-stuffing s e m (U.stuffing {at = suc a} {m = k} u x q l) h n = first-stuffing s (suc a) k u (omega arith) n
+first-stuffing s e m (U.ours {at = zero} u x y z q l) h n = absurd (n x)
+first-stuffing s e m (U.ours {at = suc a} u x y z q l) h n = first-stuffing s (suc a) none u (omega arith) n
 
--- ---- a cover, and a first tag that becomes stuffing's
-pub cover-form : (s : List ℕ) → 21 ≤ length s → length s ≤ 257 → byteAt s 0 ≡ stuffingTag → byteAt s 1 + 2 ≡ length s → goodForm s ≡ true
-cover-form s l h t e =
-    facts-form s (record { size = facts-size (length s) (l, h); first = first-stuffing s t; rest = rest-end s (byteAt s 1 + 2) e })
+module _ (s : List ℕ) where
+  abbrev s′ : List ℕ
+  s′ = set s 0 stuffingTag
 
-pub retag-first : (s : List ℕ) → goodForm s ≡ true → byteAt (set s 0 stuffingTag) 0 ≡ stuffingTag
-retag-first s f = let n = form-size s f in getD-set-same s 0 stuffingTag 0 (omega arith)
+  other : (i : ℕ) → 0 < i → byteAt s′ i ≡ byteAt s i
+  other i h = getD-set-other s 0 i stuffingTag 0 (omega arith)
 
-rest-retag : (s : List ℕ) (x e : ℕ) → 0 < e → goodRest (set s 0 x) e ≡ goodRest s e
-unfolding goodRest
-rest-retag s x e h = rw (length-set s 0 x, getD-set-other s 0 e x 0 (omega arith), getD-set-other s 0 (e + 1) x 0 (omega arith))
+  same-end : (a e : ℕ) → e ≡ behind s a → e ≡ behind s′ a
+  same-end a e q = let o = other (a + 1) (omega arith) in omega arith
 
-pub retag-form : (s : List ℕ) → goodForm s ≡ true → goodForm (set s 0 stuffingTag) ≡ true
-retag-form s f =
-    let g = form-facts s f in
-    let o : byteAt (set s 0 stuffingTag) 1 ≡ byteAt s 1 = getD-set-other s 0 1 stuffingTag 0 (omega arith) in
-    facts-form (set s 0 stuffingTag) (record {
-      size = rw length-set (g .size);
-      first = first-stuffing (set s 0 stuffingTag) (retag-first s f);
-      rest = rw (o, rest-retag s stuffingTag (byteAt s 1 + 2) (omega arith)) (g .rest);
-    })
+  -- made stuffing's over ours: there is none any more
+  over-ours : (e : ℕ) (m : Option ℕ) → byteAt s 0 ≡ tag → 0 < length s → Upto s e m → Upto s′ e none
+  over-ours e m t n U.start = U.start
+  over-ours e m t n (U.stuffing {at = zero} u x q l) = absurd (omega arith)
+  over-ours e m t n (U.stuffing {at = suc a} {m = k} u x q l) =
+      U.stuffing {at = suc a} (over-ours (suc a) k t n u) (other (suc a) (omega arith) ∙ x) (same-end (suc a) e q) (rw length-set l)
+  over-ours e m t n (U.ours {at = zero} u x y z q l) =
+      U.stuffing {at = zero} U.start (getD-set-same s 0 stuffingTag 0 n) (same-end zero e q) (rw length-set l)
+  over-ours e m t n (U.ours {at = suc a} u x y z q l) = absurd (none-some none 0 refl (first-ours s (suc a) none t u (omega arith)))
+
+-- THE FIRST STORE: where the first tag was ours, none of ours is left; else no byte changes
+pub retag : {s : List ℕ} {m : Option ℕ} → Good s m → byteAt s 0 ≡ tag → Good (set s 0 stuffingTag) none
+retag {s} {m} g t =
+    record { least = rw length-set (g .least); most = rw length-set (g .most); upto = rw length-set (over-ours s (length s) m t (omega arith) (g .upto)) }
+
+pub retag-same : {s : List ℕ} {m : Option ℕ} → Good s m → (byteAt s 0 ≡ tag → ⊥) → set s 0 stuffingTag ≡ s
+retag-same {s} {m} g t = ap (set s 0) (sym (first-stuffing s (length s) m (g .upto) (let n = g .least in omega arith) t)) ∙ set-getD s 0 0
+
+-- ---- at the place of ours: a whole descriptor with our tag, a length of 1 at least and our third byte
+pub record OursAt (s : List ℕ) (a : ℕ) : Type 0 where
+  pub its-length : 1 ≤ byteAt s (a + 1)
+  pub its-end : behind s a ≤ length s
+
+there : (s : List ℕ) (e a : ℕ) (m : Option ℕ) → Upto s e m → m ≡ some a → OursAt s a
+there s e a m U.start q = absurd (none-some none a refl q)
+there s e a m (U.stuffing {at = x} {m = k} u t f l) q = there s x a k u q
+there s e a m (U.ours {at = x} u t y z f l) q =
+    let w : x ≡ a = some-same x a q in
+    rw (← w) (record { its-length = y; its-end = omega arith })
+
+pub ours-there : {s : List ℕ} {a : ℕ} → Good s (some a) → OursAt s a
+ours-there {s} {a} g = there s (length s) a (some a) (g .upto) refl
 
 -- ---- a slot that holds a body
 module _ (n : ℕ) (body : List ℕ) (l : 21 ≤ n) (h : n ≤ 257) (fits : length (envelope body) ≤ n) (gap : length (envelope body) + 1 ≡ n → ⊥) where
-  pub holding-length : length (holding n body) ≡ n
+  holding-length : length (holding n body) ≡ n
   unfolding holding
   holding-length = rw (length-append, stuffing-length) (omega arith)
 
@@ -75,34 +94,31 @@ module _ (n : ℕ) (body : List ℕ) (l : 21 ≤ n) (h : n ≤ 257) (fits : leng
   unfolding holding
   over i = getD-append-add (envelope body) (stuffing (n - length (envelope body))) i 0
 
-  pub holding-first : (byteAt (holding n body) 0 ≡ tag) × ((byteAt (holding n body) 1 ≡ suc (length body)) × (byteAt (holding n body) 2 ≡ extension))
+  -- its descriptor is one of ours
+  its-first : Upto (holding n body) (length (envelope body)) (some 0)
   unfolding holding
-  holding-first = (refl, (refl, refl))
+  its-first = U.ours {at = 0} {e = length (envelope body)} U.start refl (omega arith) refl (omega arith) (rw holding-length fits)
 
-  its-rest : goodRest (holding n body) (length (envelope body)) ≡ true
+  -- .. and ends the slot, or stuffing behind it does
+  its-rest : Upto (holding n body) (length (holding n body)) (some 0)
   its-rest =
       ⊎-elim
-      (λ (e : length (envelope body) ≡ n). rest-end (holding n body) (length (envelope body)) (e ∙ sym holding-length))
+      (λ (e : length (envelope body) ≡ n). subst (λ (x : ℕ). Upto (holding n body) x (some 0)) (e ∙ sym holding-length) its-first)
       (λ (b : length (envelope body) < n).
       let m : 1 < n - length (envelope body) = omega arith in
       let a : byteAt (holding n body) (length (envelope body)) ≡ stuffingTag =
       ap (byteAt (holding n body)) (sym (add-zero (length (envelope body)))) ∙ over 0 ∙ stuffing-tag (n - length (envelope body)) 0 refl (omega arith) in
       let z : byteAt (holding n body) (length (envelope body) + 1) ≡ n - length (envelope body) - 2 =
       over 1 ∙ stuffing-size (n - length (envelope body)) 1 refl m in
-      rest-stuffing (holding n body) (length (envelope body)) (a, rw (z, holding-length) (omega arith)))
+      let k = holding-length in
+      U.stuffing {at = length (envelope body)} {e = length (holding n body)} its-first a (omega arith) (omega arith))
       (eq-or-lt-of-le fits)
 
-  pub holding-form : goodForm (holding n body) ≡ true
-  holding-form =
-      let e : byteAt (holding n body) 1 + 2 ≡ length (envelope body) = rw (holding-first .1 .0) (omega arith) in
-      facts-form (holding n body) (record {
-        size = rw holding-length (facts-size n (l, h));
-        first = first-ours (holding n body) (holding-first .0, (rw (holding-first .1 .0) (omega arith), holding-first .1 .1));
-        rest = rw e its-rest;
-      })
+  pub image : Good (holding n body) (some 0)
+  image = record { least = rw holding-length l; most = rw holding-length h; upto = its-rest }
 
-  pub holding-body : bodyIn (holding n body) ≡ body
+  pub image-body : bodyAt (holding n body) 0 ≡ body
   unfolding holding
-  holding-body =
+  image-body =
       let e : suc (length body) - 1 ≡ length body = omega arith in
       rw e (take-at body (stuffing (n - length (envelope body))) (length body) refl)

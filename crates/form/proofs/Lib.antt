@@ -1,6 +1,14 @@
 pub mod Tests
 pub mod Stuffing
 pub mod GoodForm
+pub mod Walking
+pub mod Fitting
+pub mod Places
+pub mod Outcomes
+pub mod Answers
+pub mod Loop
 pub mod Laws
+pub mod Walked
+pub mod Document01
 pub mod Equal
 pub mod Cases

@@ -1,13 +1,10 @@
 -- A stuffing descriptor: its length, and the byte at each place. Its two first bytes stand there as written, and the rest is one byte repeated.
 -- Assumes nothing.
-use mathlib.Core.Path.{_≡_, refl, sym, ap, _∙_}
-use mathlib.Core.List.{List, [], append-nil}
-use Prim.Native.Nat.{ℕ, zero, suc, _+_, _-_, _≤_, _<_}
-use native.Mathlib.Nat.{not-suc-le-zero, le-of-suc-le-suc, zero-add}
+use mathlib.Core.Path.{_≡_, refl, ap}
+use Prim.Native.Nat.{ℕ, zero, suc, _-_, _<_}
+use native.Mathlib.Nat.{not-suc-le-zero, le-of-suc-le-suc}
 use native.Mathlib.Omega.{arith}
-use native.Mathlib.Numerals.{add-one}
-use lib.ListN.{length, getD, set, take, drop, length-replicate, getD-replicate, drop-of-length-le}
-use lib.Seq.{paste, paste-suc, length-paste, take-all}
+use lib.ListN.{length, getD, length-replicate, getD-replicate}
 use Rattle.form.specs.Envelope.{stuffingTag, filler, stuffing}
 
 pub stuffing-length : (m : ℕ) → length (stuffing m) ≡ m

@@ -11,9 +11,9 @@ pub fails : (b : Bool) → (b ≡ true → ⊥) → false ≡ b
 fails true h = absurd (h refl)
 fails false h = refl
 
-pub and-true : (b : Bool) → b && true ≡ b
-and-true true = refl
-and-true false = refl
+pub both : (a b : Bool) → (a && b) ≡ true → (a ≡ true) × (b ≡ true)
+both true b e = (refl, e)
+both false b e = absurd (false≢true e)
 
 -- each test of the list, as an equation
 abbrev pub Each : List Bool → Type 0

@@ -1,2 +1,5 @@
 pub mod Envelope
+pub mod Walk
 pub mod Form
+pub mod Bytewise
+pub mod Document01

@@ -1,11 +1,24 @@
 // Good form.
 ghost use mathlib.Core.Path.{_≡_};
-ghost use Prim.Native.Nat.{_<_, _≤_};
+ghost use Prim.Native.Nat.{_+_, _<_, _≤_};
 ghost use lib.ListN.{length};
-ghost use Rattle.form.specs.Form.{goodSize, goodFirst, goodRest, goodForm};
+ghost use Rattle.form.specs.Form.{byteAt, goodSize, goodForm, formOf};
+ghost use Rattle.form.specs.Bytewise.{oursAt};
 use crate::envelope::EXTENSION;
 use crate::envelope::STUFFING_TAG;
 use crate::envelope::TAG;
+
+// The form of a slot: good, and then empty or not, or else what is wrong.
+pub enum Form {
+    // The size is outside 21 to 257.
+    Size,
+    // The first descriptor that breaks the form starts here.
+    Broken { at: usize },
+    // Good form, with no descriptor of ours.
+    Empty,
+    // Good form, with the one of ours that starts here.
+    Ours { at: usize },
+}
 
 // A byte as a number.
 fn wide(x: u8) -> usize
@@ -27,56 +40,72 @@ pub fn is_size(n: usize) -> bool
     true
 }
 
-// Whether the first descriptor is stuffing, or one of ours.
-fn is_first(s: &[u8]) -> bool
-    requires { ⌜ 3 ≤ length (now s) ⌝ }
-    ensures { λ r. ⌜ r ≡ goodFirst (now (s .entry)) ⌝ }
+// Whether the descriptor at `at`, which lies whole, is one of ours.
+fn is_ours(s: &[u8], at: usize) -> bool
+    requires { ⌜ (length (now s) ≤ 257) × (at + 2 + byteAt (now s) (at + 1) ≤ length (now s)) ⌝ }
+    ensures { λ r. ⌜ r ≡ oursAt (now (s .entry)) at ⌝ }
 {
-    if s[0] == STUFFING_TAG {
-        return true;
-    }
-    if s[0] != TAG {
+    if s[at] != TAG {
         return false;
     }
-    if s[1] == 0 {
+    if s[at + 1] == 0 {
         return false;
     }
-    if s[2] != EXTENSION {
+    if s[at + 2] != EXTENSION {
         return false;
     }
     true
 }
 
-// Whether a first descriptor that ends at `e` ends the slot, or one stuffing descriptor behind it does.
-fn is_rest(s: &[u8], e: usize) -> bool
-    requires { ⌜ (length (now s) ≤ 257) × (e ≤ 257) ⌝ }
-    ensures { λ r. ⌜ r ≡ goodRest (now (s .entry)) e ⌝ }
+// The form of a slot of a good size. `ours` is where the one of ours starts, and `n` as long as there is none.
+fn walk(s: &[u8]) -> Form
+    requires { ⌜ (21 ≤ length (now s)) × (length (now s) ≤ 257) ⌝ }
+    ensures { λ r. ⌜ r ≡ formOf (now (s .entry)) ⌝ }
 {
     let n = s.len();
-    if e == n {
-        return true;
+    let mut at: usize = 0;
+    let mut ours: usize = n;
+    while at + 2 <= n {
+        let end = at + 2 + wide(s[at + 1]);
+        if n < end {
+            return Form::Broken { at };
+        }
+        if s[at] != STUFFING_TAG {
+            if ours < n || !is_ours(s, at) {
+                return Form::Broken { at };
+            }
+            ours = at;
+        }
+        at = end;
     }
-    if n < e + 2 {
-        return false;
+    if at < n {
+        return Form::Broken { at };
     }
-    if s[e] != STUFFING_TAG {
-        return false;
+    if ours < n {
+        return Form::Ours { at: ours };
     }
-    if e + 2 + wide(s[e + 1]) != n {
-        return false;
+    Form::Empty
+}
+
+// The form of any slot.
+pub fn form_of(s: &[u8]) -> Form
+    ensures { λ r. ⌜ r ≡ formOf (now (s .entry)) ⌝ }
+{
+    if is_size(s.len()) {
+        return walk(s);
     }
-    true
+    Form::Size
 }
 
 // Whether the slot is in good form.
 pub fn in_form(s: &[u8]) -> bool
     ensures { λ r. ⌜ r ≡ goodForm (now (s .entry)) ⌝ }
 {
-    let n = s.len();
-    if is_size(n) {
-        if is_first(s) {
-            return is_rest(s, wide(s[1]) + 2);
-        }
+    let form = form_of(s);
+    match form {
+        Form::Size => false,
+        Form::Broken { at: _ } => false,
+        Form::Empty => true,
+        Form::Ours { at: _ } => true,
     }
-    false
 }

@@ -1,16 +1,35 @@
-// Jobs on slots: begins with a name, for each answer that begin gives; and for every slot size and several records a
-// job that is stopped after every number of stores, made by one step or by two of a job that is lent: what the slot
-// then reads as and holds, and what a new job begun there leaves, goes into a digest. What is printed is what a plain
-// model of docs/ANSWERS.md gives if all is right.
+// Slots and jobs: begins with a name, for each answer that begin gives; slots with a name; for every slot size, several
+// records and several starts a job that is stopped after every number of stores, made by one step or by two of a job
+// that is lent: what the slot then reads as and holds, and what a new job begun there leaves, goes into a digest; and
+// slots by draws. What is printed is what a plain model of docs/ANSWERS.md gives if all is right.
+mod damage;
+mod drawn;
+mod forms;
+mod heads;
 mod lent;
 mod named;
 mod print;
 mod sample;
+mod seen;
+mod start;
 mod stop;
 
 use lines::put::put;
 use print::word;
+use sample::count;
 use sample::fill;
+
+// The record of a case: each of the six kinds, and then those that fill the slot (1) and that have all parts (5) in
+// turn.
+fn kind_of(block: u32) -> u32 {
+    if block < 6 { block } else { 1 + block % 2 * 4 }
+}
+
+// The start of a case: the six kinds of record on an empty slot and over the default record in turn, and then those two
+// on each of the other starts.
+fn start_of(block: u32) -> u32 {
+    if block < 6 { block % 2 } else { block / 2 - 1 }
+}
 
 // How long the body of a case is, in a slot of `n` bytes.
 fn count_of(kind: u32, n: usize) -> usize {
@@ -34,11 +53,9 @@ fn make_body(case: u32, kind: u32, count: usize, body: &mut [u8]) {
     put(body, 5, if kind == 5 { 247 } else { 243 });
 }
 
-// Counts one answer.
-fn count(counts: &mut [u32; 5], cell: usize) {
-    if cell < 5 {
-        counts[cell] = std::num::wrapping_add_u32(counts[cell], 1);
-    }
+// Where a reading is counted: 2 for a record, 3 for an empty slot, 4 for neither.
+fn cell_of(reading: usize) -> usize {
+    if reading < 2 { reading + 2 } else { 4 }
 }
 
 // One number of stores.
@@ -52,7 +69,7 @@ fn one_stop(
     counts: &mut [u32; 5],
 ) -> u32 {
     let after = stop::put_stop(d, start, slot, body, made);
-    count(counts, stop::reading_cell(slot));
+    count(counts, cell_of(seen::reading_cell(slot)));
     stop::put_again(after, slot, tail)
 }
 
@@ -75,17 +92,17 @@ fn stops(
     d
 }
 
-// A case with its body and its slot: what begin answers, and then every number of stores.
+// A case with its body and its start: what begin answers, and then every number of stores.
 fn run_in(
     d: u32,
-    odd: bool,
+    case: u32,
     body: &[u8],
     tail: &[u8],
     start: &mut [u8],
     slot: &mut [u8],
     counts: &mut [u32; 5],
 ) -> u32 {
-    stop::prepare(start, odd);
+    start::prepare(start, start_of(case / 237), case);
     count(counts, stop::begin_cell(start, body));
     let begun = stop::begin_told(d, start, body);
     let n = start.len();
@@ -97,7 +114,7 @@ fn run_in(
 
 // A case: its slot has `n` bytes.
 fn run(d: u32, case: u32, tail: &[u8], counts: &mut [u32; 5]) -> u32 {
-    let kind = case / 237;
+    let kind = kind_of(case / 237);
     let n = (21 + case % 237) as usize;
     let b = count_of(kind, n);
     let mut body = [0u8; 300];
@@ -109,7 +126,7 @@ fn run(d: u32, case: u32, tail: &[u8], counts: &mut [u32; 5]) -> u32 {
     }
     run_in(
         d,
-        kind % 2 == 1,
+        case,
         &body[0..b],
         &tail[0..n - 21],
         &mut start[0..n],
@@ -122,25 +139,32 @@ fn run(d: u32, case: u32, tail: &[u8], counts: &mut [u32; 5]) -> u32 {
 fn run_all(tail: &[u8], counts: &mut [u32; 5]) -> u32 {
     let mut d: u32 = 0;
     let mut case = 0;
-    while case < 1422 {
+    while case < 3792 {
         d = run(d, case, tail, counts);
         case += 1;
     }
     d
 }
 
-// Runs the begins with a name, and then all cases, and prints the counts and the digest.
-fn main() {
-    named::begins();
+// Runs all cases, and prints the counts and the digest.
+fn jobs() {
     let mut tail = [0u8; 257];
     let mut counts = [0u32; 5];
     fill(&mut tail, 257, 1);
     let d = run_all(&tail, &mut counts);
-    word(b"jobs 1422\n", counts[0]);
+    word(b"jobs 3792\n", counts[0]);
     word(b" ", counts[1]);
     word(b" ", counts[2]);
     word(b" ", counts[3]);
     word(b" ", counts[4]);
     word(b"\ndigest ", d);
     io::write_all(1, b"\n");
+}
+
+// Runs the begins and the slots with a name, all jobs, and the slots by draws.
+fn main() {
+    named::begins();
+    forms::slots();
+    jobs();
+    drawn::slots();
 }

@@ -3,6 +3,7 @@ use answers::answer::Answer;
 use answers::answer::Refusal;
 use job::job::Job;
 use job::job::StepAnswer;
+use slot::answer::SlotAnswer;
 
 // Prints a text and a number.
 pub(crate) fn word(text: &[u8], n: u32) {
@@ -15,9 +16,23 @@ fn size(text: &[u8], n: usize) {
     word(text, (n % 4_294_967_296) as u32);
 }
 
-// Prints a refusal of begin: its number, and what it tells. Any other is a number that is not there.
+// Prints that a body ends inside a part: which one, where it ends, the body's length, and the least total.
+fn short(place: u8, need: usize, have: usize, least: usize) {
+    word(b"1 ", place as u32);
+    size(b" ", need);
+    size(b" ", have);
+    size(b" ", least);
+}
+
+// Prints a refusal of begin or of a slot: its number, and what it tells. Any other is a number that is not there.
 fn refusal(why: Refusal) {
     match why {
+        Refusal::Short {
+            place,
+            need,
+            have,
+            least,
+        } => short(place, need, have, least),
         Refusal::Long { length } => word(b"2 ", length as u32),
         Refusal::Inconsistent { place } => word(b"3 ", place as u32),
         Refusal::Field { place } => word(b"4 ", place as u32),
@@ -32,6 +47,20 @@ pub(crate) fn answer(a: Answer) {
     match a {
         Answer::Accepted(n) => size(b"0 ", n),
         Answer::Refused(why) => refusal(why),
+    }
+}
+
+// Prints what a slot reads as: 0 with the tail's place and length, 9 for an empty one, or a refusal.
+pub(crate) fn reading(slot: &[u8]) {
+    let r = slot::read::read(slot);
+    let a = r.answer;
+    match a {
+        SlotAnswer::Accepted { place, length } => {
+            size(b"0 ", place);
+            size(b" ", length);
+        }
+        SlotAnswer::Empty => word(b"", 9),
+        SlotAnswer::Refused(why) => refusal(why),
     }
 }
 

@@ -2,37 +2,20 @@
 use crate::lent::step_lent;
 use crate::print::bit;
 use crate::print::number;
+use crate::seen::put_answer;
+use crate::seen::put_reading;
+use crate::seen::put_size;
+use crate::start::whole_job;
 use answers::answer::Answer;
-use answers::answer::Refusal;
 use job::job::Job;
 use job::job::Stepped;
 use lines::digest::put;
 use lines::digest::put_bytes;
 use lines::put::copy;
-use s2xv2::record::S2Xv2SatelliteDeliverySystem;
-use slot::answer::SlotAnswer;
-
-// The digest with one size more.
-fn put_size(d: u32, n: usize) -> u32 {
-    put(d, (n % 4_294_967_296) as u32)
-}
-
-// The refusals that a slot or a begin gives here; any other is a number that is not there.
-fn put_refusal(d: u32, why: Refusal) -> u32 {
-    match why {
-        Refusal::Slot => put(d, 6),
-        Refusal::NoFit { size } => put_size(put(d, 7), size),
-        _ => put(d, 99),
-    }
-}
 
 // What begin answers.
 pub(crate) fn begin_told(d: u32, slot: &[u8], body: &[u8]) -> u32 {
-    let answer = begun(slot, body);
-    match answer {
-        Answer::Accepted(n) => put_size(put(d, 0), n),
-        Answer::Refused(why) => put_refusal(d, why),
-    }
+    put_answer(d, begun(slot, body))
 }
 
 // What begin answers for the record and tail of a body.
@@ -85,46 +68,6 @@ fn put_step(d: u32, slot: &mut [u8], body: &[u8], allowance: usize) -> u32 {
     let s = stepped(job_for(slot, body), slot, allowance);
     let answer = s.answer;
     put(put(put_size(d, s.stores), bit(s.done)), number(answer))
-}
-
-// What a slot reads as: 0 with the tail's place and length, 9 for an empty one, or a refusal.
-fn put_reading(d: u32, slot: &[u8]) -> u32 {
-    let r = slot::read::read(slot);
-    let answer = r.answer;
-    match answer {
-        SlotAnswer::Accepted { place, length } => put_size(put_size(put(d, 0), place), length),
-        SlotAnswer::Empty => put(d, 9),
-        SlotAnswer::Refused(why) => put_refusal(d, why),
-    }
-}
-
-// As what a slot reads: 2 for a record, 3 for an empty one, 4 for neither.
-pub(crate) fn reading_cell(slot: &[u8]) -> usize {
-    let r = slot::read::read(slot);
-    let answer = r.answer;
-    match answer {
-        SlotAnswer::Accepted {
-            place: _,
-            length: _,
-        } => 2,
-        SlotAnswer::Empty => 3,
-        SlotAnswer::Refused(_) => 4,
-    }
-}
-
-// A whole job with the default record and a tail.
-fn whole_job(slot: &mut [u8], tail: &[u8]) {
-    let b = begin::begin(slot, S2Xv2SatelliteDeliverySystem::default(), tail);
-    let job = b.job;
-    job.step(slot, 1000);
-}
-
-// Makes the slot empty, and where asked stores the default record in it.
-pub(crate) fn prepare(slot: &mut [u8], stored: bool) {
-    slot::empty::make_empty(slot);
-    if stored {
-        whole_job(slot, &[]);
-    }
 }
 
 // Stops a job after a number of stores, and puts what is then in the slot.

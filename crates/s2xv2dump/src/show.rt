@@ -110,8 +110,10 @@ fn refused(why: Refusal) {
 pub(crate) fn slot(s: &[u8]) {
     let answer = slot::read::read(s).answer;
     match answer {
-        // The body starts behind the 3 bytes of the envelope, and ends where its tail ends.
-        SlotAnswer::Accepted { place, length } => body(&s[3..place + length]),
+        SlotAnswer::Accepted {
+            place: _,
+            length: _,
+        } => body(slot::read::body_in(s)),
         SlotAnswer::Empty => print_all(b"empty\n"),
         SlotAnswer::Refused(why) => refused(why),
     }

@@ -1,5 +1,6 @@
-// One job, store by store: the slot after each, and what it reads as. docs/JOB.md shows what this program writes.
+// Two jobs, store by store: the slot after each, and what it reads as. docs/JOB.md shows what this program writes.
 ghost use Prim.Native.Nat.{_<_};
+use job::job::Job;
 use libc::STDOUT_FILENO;
 use s2xv2::record::S2Xv2SatelliteDeliverySystem;
 use slot::answer::SlotAnswer;
@@ -85,7 +86,7 @@ fn record(x: u8) -> S2Xv2SatelliteDeliverySystem {
 }
 
 // Stores one record in an empty slot, and then another over it, one store at a time.
-fn main() {
+fn over_a_record() {
     let mut s = [0u8; 25];
     slot::empty::make_empty(&mut s);
     let tail = [171u8; 1];
@@ -103,4 +104,38 @@ fn main() {
         k += 1;
         show(k, &s);
     }
+}
+
+// Makes some stores, and shows the slot after `k` of them.
+fn stepped(job: Job, s: &mut [u8], allowance: usize, k: usize) -> Job {
+    let d = job.step(s, allowance);
+    show(k, s);
+    d.job
+}
+
+// The same record stands behind stuffing of 4 bytes, and another is stored over both. Of the stores in the middle only
+// the last is shown.
+fn behind_stuffing() {
+    let mut s = [1u8; 25];
+    s[0] = 0x42;
+    s[1] = 2;
+    s[2] = 255;
+    s[3] = 255;
+    s[4] = 0x7F;
+    s[5] = 19;
+    s[6] = 0x24;
+    let begun = begin::begin(&s, record(2), &[]);
+    let job = begun.job;
+    show(0, &s);
+    let job = stepped(job, &mut s, 1, 1);
+    let job = stepped(job, &mut s, 1, 2);
+    let job = stepped(job, &mut s, 24, 26);
+    stepped(job, &mut s, 1, 27);
+}
+
+// Both jobs, with an empty line between them.
+fn main() {
+    over_a_record();
+    put(10);
+    behind_stuffing();
 }

@@ -15,7 +15,7 @@ use Rattle.slot.specs.declared.answer.SlotAnswer.{SlotAnswer}
 use Rattle.slot.specs.declared.answer.SlotAnswer.the-variants as A
 use Rattle.slot.specs.declared.answer.SlotRead.{SlotRead}
 use Rattle.slot.specs.Answer.{slotTold, slotSeen}
-use Rattle.slot.specs.Read.{shown}
+use Rattle.slot.specs.Read.{bodyIn, shown}
 use Rattle.slot.specs.Empty.{emptyTold, emptied}
 
 -- number 0 with nothing more is empty, number 0 with more is accepted, and any other number is a refusal's
@@ -49,7 +49,10 @@ pub read-into-equal : (s v w x y : List ℕ) (a b : SlotAnswer)
     → (slotTold b ≡ shown s .reading .told) × (w ≡ numbersOf (shown s .reading .body)) × (y ≡ bytesOf (shown s .reading .body)) → (a ≡ b) × (v ≡ w) × (x ≡ y)
 read-into-equal s v w x y a b p q = (same-slot-told a b (p .0 ∙ sym (q .0)), p .1 ∙ sym (q .1), p .2 ∙ sym (q .2))
 
--- `read::reserved_tail`: the bytes of the part
+-- `read::body_in` and `read::reserved_tail`: the bytes of the part
+pub body-in-equal : (s a b : List ℕ) → a ≡ bodyIn s → b ≡ bodyIn s → a ≡ b
+body-in-equal s a b p q = p ∙ sym q
+
 pub reserved-tail-equal : (s a b : List ℕ) → a ≡ shown s .tail → b ≡ shown s .tail → a ≡ b
 reserved-tail-equal s a b p q = p ∙ sym q
 

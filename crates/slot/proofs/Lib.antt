@@ -2,3 +2,4 @@ pub mod Emptying
 pub mod Laws
 pub mod Reading
 pub mod Equal
+pub mod Document01

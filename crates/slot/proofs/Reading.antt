@@ -1,4 +1,4 @@
--- What reading a slot answers, by the way through the code: the form, the first tag, and the reader's answer for the body. The record that is shown comes back
+-- What reading a slot answers, by the way through the code: the form that is told, and the reader's answer for the body. The record that is shown comes back
 -- from the arrays that it was stored into (`slot-back`).
 -- Assumes nothing.
 use mathlib.Core.Path.{_≡_, refl, sym, ap, _∙_}
@@ -6,7 +6,7 @@ use mathlib.Core.Bool.{Bool, true, false}
 use mathlib.Core.List.{List, [], _∷_}
 use Prim.Native.Nat.{ℕ, _+_, _-_, _≤_}
 use native.Mathlib.Omega.{arith}
-use lib.Dec.{eqb}
+use mathlib.Core.Option.{Option, none, some}
 use lib.ListN.{length, take, drop, length-take, length-drop}
 use Rattle.answers.proofs.Answers.{refused-number}
 use Rattle.answers.specs.declared.answer.Refusal.{Refusal}
@@ -19,44 +19,71 @@ use Rattle.s2xv2_plain.specs.Input.{meant}
 use Rattle.s2xv2_plain.specs.Output.{numbersOf, bytesOf}
 use Rattle.s2xv2_plain.proofs.Back.{back}
 use Rattle.s2xv2_reader.proofs.Shown.{shown-back}
-use Rattle.form.specs.Envelope.{stuffingTag}
-use Rattle.form.specs.Form.{byteAt, bodyIn, goodForm}
-use Rattle.slot.specs.Read.{Shown, showsNone, showsEmpty, showsBody, placed, shown}
-use Rattle.form.proofs.GoodForm.{form-size}
-use Rattle.slot.proofs.Laws.{shown-body}
+use Rattle.form.specs.Form.{byteAt, bodyAt, goodForm, ours, judged, formOf}
+use Rattle.form.specs.declared.good.Form.{Form}
+use Rattle.form.specs.declared.good.Form.the-variants as F
+use Rattle.form.proofs.Answers.{good-form, isGood, good-told, told-good}
+use Rattle.form.proofs.Laws.{ours-there}
+use Rattle.slot.specs.Read.{Shown, showsNone, showsEmpty, bodyOf, bodyIn, showsBody, showsOurs, placed, shown}
+use Rattle.slot.proofs.Laws.{reads-good}
 
-pub shown-none : (s : List ℕ) → goodForm s ≡ false → shown s ≡ showsNone
+-- ---- by the form that is told
+pub shown-none : (s : List ℕ) (f : Form) → f ≡ formOf s → isGood f ≡ false → showsNone ≡ shown s
 unfolding shown
-shown-none s f = rw f
+shown-none s f e n = rw (sym (good-told s f e) ∙ n)
 
--- the body, cut where the descriptor ends
-pub body-part : (s : List ℕ) (b : ℕ) → b ≡ byteAt s 1 → take (b + 2 - 3) (drop 3 s) ≡ bodyIn s
-body-part s b e = let q : b + 2 - 3 ≡ byteAt s 1 - 1 = omega arith in ap (λ (n : ℕ). take n (drop 3 s)) q
+pub shown-empty : (s : List ℕ) → F.Empty ≡ formOf s → showsEmpty ≡ shown s
+shown-empty s e = sym (reads-good (told-good s none (sym e)) .reads)
 
-pub body-size : (s b : List ℕ) → goodForm s ≡ true → b ≡ bodyIn s → length b ≤ 257
-body-size s b f e = let n = form-size s f in rw e (simp (length-take, length-drop) (omega arith))
+pub no-body : (s : List ℕ) (f : Form) → f ≡ formOf s → isGood f ≡ false → [] ≡ bodyIn s
+unfolding bodyIn
+no-body s f e n = rw (sym (good-told s f e) ∙ n)
+
+pub its-body : (s : List ℕ) (m : Option ℕ) → formOf s ≡ judged none m → bodyOf s m ≡ bodyIn s
+unfolding bodyIn
+its-body s m e = let g = good-form (told-good s m e) in rw (g .0, g .1)
+
+-- the tail is that of the body, also where there is none: no bytes are no body
+no-bytes : tailOf [] ≡ []
+unfolding readTold
+no-bytes = refl
+
+pub tail-in : (s : List ℕ) → tailOf (bodyIn s) ≡ shown s .tail
+unfolding shown showsBody bodyIn
+tail-in s = go (goodForm s) (ours s)
+  where
+    go : (g : Bool) (o : Option ℕ) → tailOf (when g (bodyOf s o) []) ≡ when g (showsOurs s o) showsNone .tail
+    go true none = no-bytes
+    go true (some a) = refl
+    go false o = no-bytes
+
+-- ---- the one of ours: its bytes, and its body
+module _ (s : List ℕ) (a : ℕ) (f : formOf s ≡ F.Ours a) where
+  pub ours-bytes : (1 ≤ byteAt s (a + 1)) × ((a + 2 + byteAt s (a + 1) ≤ length s) × (length s ≤ 257))
+  ours-bytes = let g = told-good s (some a) f in let o = ours-there g in (o .its-length, (o .its-end, g .most))
+
+  -- the body, cut where the descriptor ends
+  pub body-part : (b : ℕ) → b ≡ byteAt s (a + 1) → take (a + 2 + b - (a + 3)) (drop (a + 3) s) ≡ bodyAt s a
+  body-part b e = let q : a + 2 + b - (a + 3) ≡ byteAt s (a + 1) - 1 = omega arith in ap (λ (n : ℕ). take n (drop (a + 3) s)) q
+
+  module _ (b : List ℕ) (e : b ≡ bodyAt s a) where
+    pub body-size : (length b ≤ 257) × (a ≤ 257)
+    body-size = let n = ours-bytes in (rw e (simp (length-take, length-drop) (omega arith)), omega arith)
+
+    shows-body : showsBody a b ≡ shown s
+    shows-body = ap (showsBody a) e ∙ sym (reads-good (told-good s (some a) f) .reads)
+
+    pub tells-body : placed a (length b) (readTold b) ≡ shown s .reading .told
+    unfolding showsBody
+    tells-body = ap (λ (x : Shown). x .reading .told) shows-body
+
+    pub holds-body : readOf b .body ≡ shown s .reading .body
+    unfolding showsBody
+    holds-body = ap (λ (x : Shown). x .reading .body) shows-body
 
 -- a refused body is told as the reader tells it
-pub placed-refused : (size : ℕ) (why : Refusal) → numbers why ≡ placed size (numbers why)
-placed-refused size why = rw (refused-number why)
-
--- ---- a slot that holds a body
-
-module _ (s b : List ℕ) (f : goodForm s ≡ true) (t : byteAt s 0 ≡ stuffingTag → ⊥) (e : b ≡ bodyIn s) where
-  shows-body : showsBody b ≡ shown s
-  shows-body = ap showsBody e ∙ sym (shown-body s f t)
-
-  pub tells-body : placed (length b) (readTold b) ≡ shown s .reading .told
-  unfolding showsBody
-  tells-body = ap (λ (x : Shown). x .reading .told) shows-body
-
-  pub holds-body : readOf b .body ≡ shown s .reading .body
-  unfolding showsBody
-  holds-body = ap (λ (x : Shown). x .reading .body) shows-body
-
-  pub tail-body : tailOf b ≡ shown s .tail
-  unfolding showsBody
-  tail-body = ap (λ (x : Shown). x .tail) shows-body
+pub placed-refused : (a size : ℕ) (why : Refusal) → numbers why ≡ placed a size (numbers why)
+placed-refused a size why = rw (refused-number why)
 
 -- the tail of a body that is accepted starts inside it
 pub starts-within : (b l : List ℕ) → l ≡ readTold b → (n : ℕ) → 0 ∷ n ∷ [] ≡ l → n ≤ length b
@@ -70,9 +97,9 @@ Back x = meant (numbersOf (x .reading .body)) (bytesOf (x .reading .body)) ≡ x
 
 pub slot-back : (s : List ℕ) → Back (shown s)
 unfolding shown showsBody defaultRecord
-slot-back s = go (goodForm s) (eqb (byteAt s 0) stuffingTag)
+slot-back s = go (goodForm s) (ours s)
   where
-    go : (f t : Bool) → Back (when f (when t showsEmpty (showsBody (bodyIn s))) showsNone)
-    go true true = back defaultRecord refl
-    go true false = shown-back (bodyIn s)
-    go false t = back defaultRecord refl
+    go : (f : Bool) (o : Option ℕ) → Back (when f (showsOurs s o) showsNone)
+    go true none = back defaultRecord refl
+    go true (some a) = shown-back (bodyAt s a)
+    go false o = back defaultRecord refl

@@ -2,15 +2,19 @@
 -- `Shown`       what is shown: an answer, a record and a tail
 -- `without`     that with no record and no tail
 -- `showsNone`   that of a slot out of form
--- `showsEmpty`  that of a slot whose first tag is stuffing's
+-- `showsEmpty`  that of a slot with none of ours
+-- `bodyOf`      the body of the one of ours, by where that starts
+-- `bodyIn`      the body that a slot holds
 -- `placed`      the reader's answer, with the tail's place in the slot
 -- `showsBody`   that of a slot with a body in it
+-- `showsOurs`   that of a slot in good form, by where the one of ours starts
 -- `shown`       what a slot reads as
 -- `ReadsAs`     a slot is in good form, and reads so
 use Prim.Native.Nat.{ℕ, _+_, _-_}
 use mathlib.Core.Path.{_≡_}
 use mathlib.Core.Bool.{true}
 use mathlib.Core.List.{List, []}
+use mathlib.Core.Option.{Option, none, some}
 use lib.ListN.{length, getD}
 use lib.Dec.{eqb}
 use Rattle.wire.specs.Flags.{when}
@@ -18,10 +22,10 @@ use Rattle.answers.specs.Answer.{numbers, numberOf}
 use Rattle.answers.specs.declared.answer.Refusal.the-variants as R
 use Rattle.s2xv2.specs.Default.{defaultRecord}
 use Rattle.s2xv2.specs.Read.{Reading, readOf, tailOf}
-use Rattle.form.specs.Envelope.{stuffingTag, envelopeSize}
+use Rattle.form.specs.Envelope.{envelopeSize}
 use Rattle.slot.specs.Answer.{slotTold}
 use Rattle.slot.specs.declared.answer.SlotAnswer.the-variants as A
-use Rattle.form.specs.Form.{byteAt, bodyIn, goodForm}
+use Rattle.form.specs.Form.{bodyAt, goodForm, ours}
 
 -- the answer in numbers, the record, and the tail
 pub record Shown : Type 0 where
@@ -38,16 +42,32 @@ showsNone = without (numbers R.Slot)
 abbrev pub showsEmpty : Shown
 showsEmpty = without (slotTold A.Empty)
 
--- the reader's numbers for a body of so many bytes, where an accepted body's tail has its place from the slot's start, and its length
-abbrev pub placed : ℕ → List ℕ → List ℕ
-placed size told = when (eqb (numberOf told) 0) (slotTold (A.Accepted (getD told 1 0 + envelopeSize) (size - getD told 1 0))) told
+-- the body of the one of ours; no bytes where there is none, or where the slot is out of form
+abbrev pub bodyOf : List ℕ → Option ℕ → List ℕ
+bodyOf s none = []
+bodyOf s (some at) = bodyAt s at
 
-unfoldable pub showsBody : List ℕ → Shown
-showsBody body = record { reading = record { told = placed (length body) (readOf body .told); body = readOf body .body }; tail = tailOf body }
+unfoldable pub bodyIn : List ℕ → List ℕ
+bodyIn s = when (goodForm s) (bodyOf s (ours s)) []
 
--- WHAT A SLOT READS AS: 6, else empty, else the reader's answer for the body
+-- the reader's numbers for a body of so many bytes in the descriptor at a place: an accepted body's tail has its place from the slot's start,
+-- and its length
+abbrev pub placed : ℕ → ℕ → List ℕ → List ℕ
+placed at size told = when (eqb (numberOf told) 0) (slotTold (A.Accepted (getD told 1 0 + (at + envelopeSize)) (size - getD told 1 0))) told
+
+unfoldable pub showsBody : ℕ → List ℕ → Shown
+showsBody at body = record {
+  reading = record { told = placed at (length body) (readOf body .told); body = readOf body .body };
+  tail = tailOf body;
+}
+
+abbrev pub showsOurs : List ℕ → Option ℕ → Shown
+showsOurs s none = showsEmpty
+showsOurs s (some at) = showsBody at (bodyAt s at)
+
+-- WHAT A SLOT READS AS: 6, else empty, else the reader's answer for the body of the one of ours
 unfoldable pub shown : List ℕ → Shown
-shown s = when (goodForm s) (when (eqb (byteAt s 0) stuffingTag) showsEmpty (showsBody (bodyIn s))) showsNone
+shown s = when (goodForm s) (showsOurs s (ours s)) showsNone
 
 -- the slot is in good form, and reads so
 pub record ReadsAs (s : List ℕ) (x : Shown) : Type 0 where

@@ -3,15 +3,17 @@
 //!     bench parse|serialize|length crate|library|raw|safe|empty SET REPEATS
 //!     bench allocate crate SET REPEATS
 //!     bench tail library|empty SET REPEATS
-//!     bench slot-read library|raw|safe|empty held|empty REPEATS
+//!     bench slot-read library|raw|safe|empty held|empty|ARRANGEMENT REPEATS
 //!     bench slot-tail library|empty held|empty REPEATS
 //!     bench make-empty library|safe|empty SIZE REPEATS
 //!     bench begin library|raw|safe|empty SLOT REPEATS
+//!     bench begin-on library|raw|safe|empty ARRANGEMENT REPEATS
 //!     bench job value|place|empty SLOT/ALLOWANCE REPEATS
 //!     bench agree                  tells whether all sides do the same on every input, and the inputs are as docs/SPEED.md says
 //!
 //! SET is `mixed`, `no-ids`, `no-tail`, `cut`, `mode-1`, `mode-5`, or `tail-` with 0, 31, 64, 1024 or 4078. SLOT is a size, with `=` behind it
-//! for descriptors that fill it; an ALLOWANCE may be `all`. The side `empty` is the loop with no call in it.
+//! for descriptors that fill it; an ALLOWANCE may be `all`. An ARRANGEMENT of a slot of 257 bytes is `stuffing`, `ours`, `ours-stuffing`,
+//! `stuffing-ours`, `pieces` or `pieces-ours`. The side `empty` is the loop with no call in it.
 mod boundary;
 mod inputs;
 mod rows;
@@ -32,7 +34,8 @@ fn row(name: &str, side: &str, inputs: &str, repeats: &str) -> Option<usize> {
         "slot-read" => slots::read(side, inputs, repeats),
         "slot-tail" => slots::tail(side, inputs, repeats),
         "make-empty" => slots::make_empty(side, inputs.parse().ok()?, repeats),
-        "begin" => slots::begin(side, slot(inputs)?, repeats),
+        "begin" => slots::begin(side, slot(inputs)?, None, repeats),
+        "begin-on" => slots::begin(side, slots::CORE, Some(inputs), repeats),
         "job" => job(side, inputs, repeats),
         _ => None,
     }

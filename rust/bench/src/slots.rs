@@ -10,6 +10,16 @@ use s2xv2::{read_slot, RawRecord, S2Xv2SatelliteDeliverySystem as Safe, Slot};
 const JOBS: usize = 100;
 /// The size of the slots that are read.
 const READ: usize = 64;
+/// The size of those in which descriptors are counted, and what stands in them, with the number of descriptors.
+const COUNTED: usize = 257;
+const ARRANGEMENTS: [(&str, usize); 6] = [
+    ("stuffing", 1),
+    ("ours", 1),
+    ("ours-stuffing", 2),
+    ("stuffing-ours", 2),
+    ("pieces", 128),
+    ("pieces-ours", 119),
+];
 
 fn empty_slot(size: usize) -> Vec<u8> {
     let mut slot = vec![0xFF; size];
@@ -51,9 +61,42 @@ fn slots(held: bool) -> Vec<Vec<u8>> {
     bodies(kind).into_iter().map(body_of).collect()
 }
 
-/// Reading slots: `held` or `empty`.
+/// Of the slots in which descriptors are counted: their bodies are the core alone.
+pub const CORE: Kind = Kind { size: 21, filled: false };
+
+/// One of ours of a size, filled up by a tail.
+fn ours(body: &[u8], size: usize) -> Vec<u8> {
+    let mut descriptor = vec![0x7F, (size - 2) as u8, 0x24];
+    descriptor.extend(body);
+    descriptor.resize(size, 0xA5);
+    descriptor
+}
+
+/// A slot with a body in an arrangement: pieces of stuffing have 2 bytes, and the last of 128 has 3.
+fn arranged(what: &str, body: &[u8]) -> Option<Vec<u8>> {
+    let (least, rest) = (body.len() + 3, COUNTED - body.len() - 3);
+    Some(match what {
+        "stuffing" => empty_slot(COUNTED),
+        "ours" => ours(body, COUNTED),
+        "ours-stuffing" => [ours(body, least), empty_slot(rest)].concat(),
+        "stuffing-ours" => [empty_slot(rest), ours(body, least)].concat(),
+        "pieces" => [[0x42, 0].repeat(127), empty_slot(3)].concat(),
+        "pieces-ours" => [[0x42, 0].repeat(rest / 2), ours(body, least)].concat(),
+        _ => return None,
+    })
+}
+
+/// The slots that are read: `held` or `empty`, or those of an arrangement.
+fn named(what: &str) -> Option<Vec<Vec<u8>>> {
+    match held(what) {
+        Some(held) => Some(slots(held)),
+        None => bodies(CORE).iter().map(|body| arranged(what, body)).collect(),
+    }
+}
+
+/// Reading slots: `held` or `empty`, or those of an arrangement.
 pub fn read(side: &str, what: &str, repeats: usize) -> Option<usize> {
-    let slots = slots(held(what)?);
+    let slots = named(what)?;
     let slots: Vec<&[u8]> = slots.iter().map(Vec::as_slice).collect();
     let (mut lent, mut record) = (zeros(), RawRecord::default());
     Some(match side {
@@ -100,9 +143,13 @@ fn no_job() -> Job {
     }
 }
 
-/// The library begins in one job, which is lent to every call; the raw record and the typed one give back a job.
-pub fn begin(side: &str, kind: Kind, repeats: usize) -> Option<usize> {
+/// The library begins in one job, which is lent to every call; the raw record and the typed one give back a job. The slot is empty, or of an
+/// arrangement.
+pub fn begin(side: &str, kind: Kind, arrangement: Option<&str>, repeats: usize) -> Option<usize> {
     let (bodies, mut bytes) = (bodies(kind), empty_slot(kind.size));
+    if let Some(what) = arrangement {
+        bytes = arranged(what, &bodies[0])?;
+    }
     let records: Vec<Own> = bodies.iter().map(|body| own(body)).collect();
     let records: Vec<&Own> = records.iter().collect();
     let mut job = no_job();
@@ -204,6 +251,24 @@ pub fn agree() -> bool {
             .into_iter()
             .all(|held| slots(held).iter().all(|slot| read_alike(slot, held)))
         && begun_alike()
+        && ARRANGEMENTS.into_iter().all(|(what, count)| arranged_alike(what, count))
+}
+
+/// That the slots of an arrangement have so many descriptors and read as they should, and that a job begins there.
+fn arranged_alike(what: &str, count: usize) -> bool {
+    bodies(CORE).iter().all(|body| {
+        let slot = arranged(what, body).expect("an arrangement");
+        let (mut at, mut descriptors) = (0, 0);
+        while at < slot.len() {
+            at += usize::from(slot[at + 1]) + 2;
+            descriptors += 1;
+        }
+        let (own, mut job) = (own(body), no_job());
+        let begun = boundary::begin(&slot, &own.record, own.tail, &mut job);
+        (at, descriptors) == (COUNTED, count)
+            && read_alike(&slot, what.contains("ours"))
+            && (begun.number, usize::from(begun.first)) == (0, COUNTED + 2)
+    })
 }
 
 fn read_alike(slot: &[u8], held: bool) -> bool {

@@ -2,10 +2,11 @@
 use crate::numbers::{from_values, to_values};
 use crate::ours::{padded, step, told, Reading};
 use crate::tally::Tally;
+use oracle::form::{form, Form};
 use oracle::generator::{self, next, seed};
 use oracle::sets::BEFORE;
 use oracle::values::{Values, COUNT, POLARIZATION};
-use oracle::{crate_side, jobs};
+use oracle::{crate_side, drawn, jobs};
 use s2xv2::{read_slot, Job, RawRecord, Slot};
 
 /// Numbers by draws.
@@ -32,18 +33,29 @@ fn size(d: &mut Draws) -> usize {
     }
 }
 
-/// Empty, holding a record, or stuffing with other first bytes, most of them in no good form.
+/// Empty, holding a record, covered by drawn descriptors and then damaged in every second case, or stuffing with other first bytes, most of
+/// them in no good form.
 fn start(d: &mut Draws, n: usize) -> Vec<u8> {
     if !(21..=257).contains(&n) {
         return d.bytes(n);
     }
     let mut slot = jobs::stuffing(n);
-    match d.below(4) {
+    match d.below(6) {
         0 => {}
-        1 | 2 => drop(jobs::step(&mut jobs::begin(&slot, &[0; COUNT], &[]).1, &mut slot, 1000)),
+        1 => drop(jobs::step(&mut jobs::begin(&slot, &[0; COUNT], &[]).1, &mut slot, 1000)),
+        2..=4 => cover(d, &mut slot),
         _ => forge(d, &mut slot),
     }
     slot
+}
+
+/// Descriptors of every arrangement, and another byte at one place or at none.
+fn cover(d: &mut Draws, slot: &mut Vec<u8>) {
+    let (many, damaged) = (d.below(16) == 0, d.below(2) == 0);
+    *slot = drawn::covered(slot.len(), many, d.0);
+    if damaged {
+        drawn::damage(slot, next(d.0));
+    }
 }
 
 /// A first descriptor of any tag and length, with stuffing behind it where that has room.
@@ -83,10 +95,8 @@ fn model_reading(slot: &[u8]) -> Reading<'_> {
         values: [0; COUNT],
         tail: &[],
     };
-    if empty.told[0] != 0 || empty.told[1] == 0 {
-        return empty;
-    }
-    let body = crate_side::read(&slot[3..2 + slot[1] as usize]);
+    let Form::Ours(ours) = form(slot) else { return empty };
+    let body = crate_side::read(&slot[ours.start + 3..ours.end]);
     Reading {
         told: empty.told,
         values: body.values,

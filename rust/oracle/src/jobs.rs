@@ -1,24 +1,15 @@
 //! A plain model of the slot and its job, from docs/ANSWERS.md alone, and the cases of the program `replay_jobs`: for every slot size and several
-//! records every number of stores, what the slot then reads as, and what a new job begun there leaves.
+//! records and starts every number of stores, what the slot then reads as, and what a new job begun there leaves.
 use crate::answer::Answer;
 use crate::crate_side::{length, read, write};
+use crate::form::{form, Form};
 use crate::generator::{next, seed};
+use crate::starts::start_of;
 use crate::stream::Stream;
 use crate::values::{Values, COUNT};
 
 pub const SIZES: u32 = 237;
-pub const CASES: u32 = SIZES * 6;
-
-fn good_form(slot: &[u8]) -> bool {
-    let n = slot.len();
-    if !(21..=257).contains(&n) {
-        return false;
-    }
-    let ours = slot[0] == 0x7F && slot[1] >= 1 && slot[2] == 0x24;
-    let end = 2 + slot[1] as usize;
-    let ends = end == n || (end + 2 <= n && slot[end] == 0x42 && end + 2 + slot[end + 1] as usize == n);
-    (ours || slot[0] == 0x42) && ends
-}
+pub const CASES: u32 = SIZES * 16;
 
 /// The stuffing descriptor of so many bytes.
 pub fn stuffing(n: usize) -> Vec<u8> {
@@ -37,7 +28,7 @@ pub struct Job {
 /// The answer of a begin: 0 and the number of stores, or a refusal; and the job.
 pub fn begin(slot: &[u8], record: &Values, tail: &[u8]) -> (Vec<u32>, Job) {
     let none = Job { stores: vec![], made: 0 };
-    if !good_form(slot) {
+    if let Form::WrongSize | Form::Broken(_) = form(slot) {
         return (vec![6], none);
     }
     let measured = length(record, tail);
@@ -77,17 +68,17 @@ pub fn step(job: &mut Job, slot: &mut [u8], allowance: usize) -> [u32; 3] {
     [count as u32, u32::from(job.made == job.stores.len()), 0]
 }
 
-/// What a slot reads as: 0 with the tail's place and length, 9 for an empty one, or a refusal.
+/// What a slot reads as: 0 with the tail's place, counted from the slot's start, and its length; 9 for an empty one; or a refusal.
 pub fn reading(slot: &[u8]) -> Vec<u32> {
-    if !good_form(slot) {
-        return vec![6];
-    }
-    if slot[0] == 0x42 {
-        return vec![9];
-    }
-    let body = read(&slot[3..2 + slot[1] as usize]);
+    let ours = match form(slot) {
+        Form::WrongSize | Form::Broken(_) => return vec![6],
+        Form::Empty => return vec![9],
+        Form::Ours(ours) => ours,
+    };
+    let start = ours.start + 3;
+    let body = read(&slot[start..ours.end]);
     match body.answer {
-        Answer::Accepted(place) => vec![0, place as u32 + 3, body.tail.len() as u32],
+        Answer::Accepted(place) => vec![0, (start + place) as u32, body.tail.len() as u32],
         refused => refused.numbers(),
     }
 }
@@ -103,8 +94,17 @@ pub fn filled(start: u32, count: usize) -> Vec<u8> {
     bytes
 }
 
-fn body_of(case: u32, n: usize) -> Vec<u8> {
-    let kind = case / SIZES;
+/// The record and the start of a case: the first six records on an empty slot and over the default record in turn, and then those that fill
+/// the slot (1) and that have all parts (5) on each of the other starts.
+fn kind_and_start(case: u32) -> (u32, u32) {
+    let block = case / SIZES;
+    match block {
+        0..=5 => (block, block % 2),
+        _ => (1 + block % 2 * 4, block / 2 - 1),
+    }
+}
+
+fn body_of(case: u32, kind: u32, n: usize) -> Vec<u8> {
     let count = match kind {
         0 => 18,
         1 => n - 3,
@@ -124,13 +124,10 @@ pub type Counts = [u32; 5];
 
 pub fn run(case: u32, s: &mut Stream, counts: &mut Counts) {
     let n = 21 + (case % SIZES) as usize;
-    let body = body_of(case, n);
+    let (kind, start) = kind_and_start(case);
+    let body = body_of(case, kind, n);
     let record = read(&body);
-    let mut start = stuffing(n);
-    if case / SIZES % 2 == 1 {
-        let (_, mut job) = begin(&start, &[0; COUNT], &[]);
-        step(&mut job, &mut start, 1000);
-    }
+    let start = start_of(start, case, n);
     let told = begin(&start, &record.values, record.tail).0;
     s.put_all("answer of begin", &told);
     counts[usize::from(told[0] != 0)] += 1;

@@ -3,6 +3,9 @@ pub mod answer;
 pub mod begins;
 pub mod compare;
 pub mod crate_side;
+pub mod drawn;
+pub mod form;
+pub mod forms;
 pub mod generator;
 pub mod jobs;
 pub mod labels;
@@ -11,6 +14,7 @@ pub mod model;
 pub mod named;
 mod numbers;
 pub mod sets;
+mod starts;
 pub mod stream;
 pub mod values;
 

@@ -8,7 +8,7 @@
 //!     oracle compare PROGRAM       finds the first case in which PROGRAM, a built `replay`, differs
 use oracle::answer::{Answer, CELLS};
 use oracle::stream::Stream;
-use oracle::{begins, compare, crate_side, generator, jobs, named, sets};
+use oracle::{begins, compare, crate_side, drawn, forms, generator, jobs, named, sets};
 use std::process::ExitCode;
 
 fn words(numbers: &[u32]) -> String {
@@ -47,12 +47,21 @@ fn record_jobs() {
     for (name, told, step, digest) in begins::rows() {
         println!("begin {name}: {}; step {}; slot {digest}", words(&told), words(&step));
     }
+    for (name, shown, told) in forms::rows() {
+        println!("slot {name}: {}; begin {}", words(&shown), words(&told));
+    }
     let mut counts = jobs::Counts::default();
     let mut s = Stream::default();
     for case in 0..jobs::CASES {
         jobs::run(case, &mut s, &mut counts);
     }
     println!("jobs {}\n{}\ndigest {}", jobs::CASES, words(&counts), s.digest);
+    let mut counts = drawn::Counts::default();
+    let mut s = Stream::default();
+    for case in 0..drawn::SLOTS {
+        drawn::run(case, &mut s, &mut counts);
+    }
+    println!("slots {}\n{}\ndigest {}", drawn::SLOTS, words(&counts), s.digest);
 }
 
 /// The cases with a name to which the crate's answer is not the library's.

@@ -3,12 +3,15 @@
 //!
 //!     cargo run --example inserter [SEED] [TURNS]
 //!
-//! A slot reads as before while its job has made no store, as the new record after the last store, and as empty in between. Anything else
-//! ends the program with a panic.
+//! A slot reads as before while its job has made no store, as the new record after the last store, and as empty in between. One of the slots
+//! starts with stuffing in front of its descriptor, as a multiplexer may leave it: its first byte is 0x42 already, so that the first store of a
+//! job changes nothing there, and it still reads as before. Anything else ends the program with a panic.
 use s2xv2::{read_slot, Job, Polarization, Refusal, RollOff, S2Xv2Mode, S2Xv2SatelliteDeliverySystem as Record, S2Xv2Superframe, Slot};
 use std::ops::Range;
 
 const SIZES: [usize; 6] = [21, 23, 44, 21, 130, 257];
+/// The slot that starts with stuffing in front.
+const BEHIND_STUFFING: usize = 4;
 
 /// Numbers by draws: an xorshift.
 struct Draws(u64);
@@ -94,11 +97,12 @@ pub struct Seen {
     pub ended_after_the_last_store: u64,
 }
 
-/// A task: its slot's place in the loop, the body that the slot held when the job began (none if it was empty), and the job with the
-/// body that it writes.
+/// A task: its slot's place in the loop, the body that the slot held when the job began (none if it was empty), how many stores leave it so, and
+/// the job with the body that it writes.
 struct Task {
     place: Range<usize>,
     before: Option<Vec<u8>>,
+    idle_stores: usize,
     job: Option<(Job, Vec<u8>)>,
 }
 
@@ -107,7 +111,7 @@ impl Task {
     fn now(&self) -> Option<&[u8]> {
         match &self.job {
             None => self.before.as_deref(),
-            Some((job, _)) if job.stores_made() == 0 => self.before.as_deref(),
+            Some((job, _)) if job.stores_made() <= self.idle_stores => self.before.as_deref(),
             Some((job, body)) if job.stores_left() == 0 => Some(body),
             Some(_) => None,
         }
@@ -130,6 +134,7 @@ impl Task {
     fn begin(&mut self, d: &mut Draws, slot: &Slot<'_>, seen: &mut Seen) {
         let body = body(d, self.place.len());
         let record = Record::parse(&body).expect("the body was written");
+        self.idle_stores = usize::from(slot.bytes()[0] == Slot::STUFFING_TAG);
         match Job::begin(slot, &record) {
             Ok(job) => {
                 seen.jobs_begun += 1;
@@ -159,7 +164,7 @@ impl Task {
         assert_eq!(read, expected, "a slot reads as something else: {copy:02X?}");
         match &self.job {
             _ if read.is_none() => seen.slots_empty += 1,
-            Some((job, _)) if job.stores_made() > 0 => seen.slots_as_written += 1,
+            Some((job, _)) if job.stores_left() == 0 => seen.slots_as_written += 1,
             _ => seen.slots_as_before += 1,
         }
     }
@@ -188,19 +193,33 @@ fn send(live: &[u8], tasks: &[Task], seen: &mut Seen) {
     seen.copies += 1;
 }
 
+/// Lays stuffing of 10 bytes in front of a descriptor that ends where the slot ends, and gives its body.
+fn lay_behind_stuffing(slot: &mut [u8]) -> Vec<u8> {
+    slot.fill(0xFF);
+    slot[..2].copy_from_slice(&[Slot::STUFFING_TAG, 8]);
+    let length = slot.len() - 12;
+    let ours = &mut slot[10..];
+    ours[..3].copy_from_slice(&[Record::TAG, length as u8, Record::TAG_EXTENSION]);
+    Record::default()
+        .serialize_into(&mut ours[3..])
+        .expect("room for a body of 18 bytes");
+    ours[3..].to_vec()
+}
+
 /// So many turns, each of one task or of the sender.
 pub fn run(seed: u64, turns: u32) -> Seen {
     let mut d = Draws(seed.wrapping_mul(2).wrapping_add(1));
     let mut live = vec![0; SIZES.iter().sum()];
     let mut tasks = vec![];
     let mut start = 0;
-    for size in SIZES {
+    for (k, size) in SIZES.into_iter().enumerate() {
         let place = start..start + size;
         start = place.end;
         Slot::new(&mut live[place.clone()]).make_empty().expect("a size from 21 to 257");
         tasks.push(Task {
+            before: (k == BEHIND_STUFFING).then(|| lay_behind_stuffing(&mut live[place.clone()])),
             place,
-            before: None,
+            idle_stores: 0,
             job: None,
         });
     }

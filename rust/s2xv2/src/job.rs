@@ -7,9 +7,10 @@ use core::mem::MaybeUninit;
 /// A write of a record to a slot, a few stores at a time.
 ///
 /// On a slot of n bytes it makes n + 2 stores of one byte. Between any two of them it may be stopped, for a while or for good: the slot
-/// then reads as before if no store was made, as the record if all were, and else as empty, and a new job may begin there. A job is a
-/// value; drop it to give it up. Two jobs at work on one slot at a time, or an older copy of a job stepped again, are not provided for:
-/// each step still stores only bytes of its own job.
+/// then reads as before if no store was made, as the record if all were, and else as empty, and a new job may begin there. A slot that
+/// starts with stuffing has not changed after the first store alone, and still reads as before then. A job is a value; drop it to give
+/// it up. Two jobs at work on one slot at a time, or an older copy of a job stepped again, are not provided for: each step still stores
+/// only bytes of its own job.
 ///
 /// ```
 /// use s2xv2::{Job, Refusal, S2Xv2SatelliteDeliverySystem, Slot};

@@ -17,6 +17,22 @@ use core::mem::MaybeUninit;
 /// assert_eq!(read_slot(&copy), Err(Refusal::Slot));
 /// ```
 ///
+/// Stuffing may stand on either side of the descriptor, and the tail ends where the descriptor ends:
+///
+/// ```
+/// use s2xv2::{read_slot, Refusal};
+///
+/// let mut copy = [0; 30];
+/// copy[..4].copy_from_slice(&[0x42, 2, 0xFF, 0xFF]); // stuffing in front
+/// copy[4..7].copy_from_slice(&[0x7F, 21, 0x24]); // the descriptor, with a body of 20 bytes
+/// copy[25..].copy_from_slice(&[1, 2, 0x42, 1, 0xFF]); // the tail, and stuffing behind
+/// assert_eq!(read_slot(&copy)?.unwrap().reserved_tail, [1, 2]);
+///
+/// copy[27..].copy_from_slice(&[0x7F, 1, 0x24]); // a second one
+/// assert_eq!(read_slot(&copy), Err(Refusal::Slot));
+/// # Ok::<(), Refusal>(())
+/// ```
+///
 /// # Errors
 /// [`Refusal::Slot`] for a wrong size or form, and [`Refusal::Short`] for a body that ends inside a part.
 pub fn read_slot(bytes: &[u8]) -> Result<Option<S2Xv2SatelliteDeliverySystem<'_>>, Refusal> {
@@ -41,8 +57,10 @@ pub(crate) fn tail_of(bytes: &[u8], answer: ffi::Answer) -> Result<Option<&[u8]>
 
 /// The bytes of a loop in which one descriptor is kept: from 21 to 257 of them.
 ///
-/// A slot is in good form when it holds our descriptor or stuffing, and after that nothing, or stuffing that ends where the slot ends. A
-/// slot may be made from any bytes: each call judges them by itself.
+/// A slot is in good form when descriptors, one behind the other, cover it exactly, each of them stuffing (0x42, of any length) or ours
+/// (0x7F, of a length of at least 1, with 0x24 as its third byte), and at most one of them ours. It reads as that one, wherever it stands, or
+/// as empty; a job stores its descriptor at the slot's start, whatever stood there. A slot may be made from any bytes: each call judges
+/// them by itself.
 #[derive(Debug)]
 pub struct Slot<'a> {
     bytes: &'a mut [u8],
@@ -53,7 +71,7 @@ impl<'a> Slot<'a> {
     pub const MIN_SIZE: usize = 21;
     /// The largest size of a slot: a descriptor whose length is 255.
     pub const MAX_SIZE: usize = 257;
-    /// The tag of the stuffing descriptor of EN 300 468: the first byte of an empty slot, and of what fills a slot behind its descriptor.
+    /// The tag of the stuffing descriptor of EN 300 468: the first byte of an empty slot, and of what fills a slot around its descriptor.
     ///
     /// ```
     /// use s2xv2::{S2Xv2SatelliteDeliverySystem, Slot};

@@ -129,23 +129,36 @@ fn stepped(start: &[u8], record: &Record<'_>, allowances: &[usize]) -> Vec<u8> {
     bytes
 }
 
+/// A slot that a job left.
+fn held(n: usize, record: &Record<'_>) -> Vec<u8> {
+    stepped(&empty(n), record, &[usize::MAX])
+}
+
+/// The same behind stuffing of 4 bytes: its first byte is 0x42, so that the first store of a job changes nothing.
+fn behind_stuffing(n: usize, record: &Record<'_>) -> Vec<u8> {
+    let mut bytes = vec![0x42, 2, 0xFF, 0xFF];
+    bytes.extend(held(n - 4, record));
+    bytes
+}
+
 #[test]
 fn every_place_to_stop() {
     let old = full(2, &[]);
     let new = full(5, &[3, 2, 1]);
     for n in [47, 49, 50, 64, 257] {
-        let start = stepped(&empty(n), &old, &[usize::MAX]);
-        assert_eq!(read_slot(&start), Ok(Some(old.clone())));
-        let end = stepped(&start, &new, &[n + 2]);
-        for stores in 0..=n + 4 {
-            let cut = stepped(&start, &new, &[stores]);
-            let expected = match stores {
-                0 => Some(old.clone()),
-                _ if stores < n + 2 => None,
-                _ => Some(new.clone()),
-            };
-            assert_eq!(read_slot(&cut), Ok(expected));
-            assert_eq!(stepped(&cut, &new, &[usize::MAX]), end);
+        let end = stepped(&empty(n), &new, &[n + 2]);
+        for (start, as_before) in [(held(n, &old), 0), (behind_stuffing(n, &old), 1)] {
+            assert_eq!(read_slot(&start), Ok(Some(old.clone())));
+            for stores in 0..=n + 4 {
+                let cut = stepped(&start, &new, &[stores]);
+                let expected = match stores {
+                    _ if stores <= as_before => Some(old.clone()),
+                    _ if stores < n + 2 => None,
+                    _ => Some(new.clone()),
+                };
+                assert_eq!(read_slot(&cut), Ok(expected));
+                assert_eq!(stepped(&cut, &new, &[usize::MAX]), end);
+            }
         }
     }
 }

@@ -9,7 +9,7 @@ abbrev Inv-loop : tie.InvT-loop
 Inv-loop tail counts₀ d₀ case₀ counts d case = Unit {0}
 
 abbrev μ-loop : tie.MeasureT-loop
-μ-loop tail counts₀ d₀ case₀ counts d case = 1422 - case
+μ-loop tail counts₀ d₀ case₀ counts d case = 3792 - case
 
 loop-holds : tie.Need-loop-holds Inv-loop μ-loop
 loop-holds c = search needs

@@ -1,6 +1,6 @@
 -- `slot::empty::fill` meets its contract: after i turns the first i bytes are the filler, and behind them stand the slot's own.
 -- Assumes nothing.
-use mathlib.Core.Path.{_≡_, refl, sym, _∙_}
+use mathlib.Core.Path.{_≡_, refl, _∙_}
 use Prim.Native.Nat.{_-_, _≤_, _<_}
 use native.Mathlib.Omega.{arith}
 use lib.ListN.{length}

@@ -1,8 +1,8 @@
 -- `slot::empty::make_empty` meets its contract: the size is tested first, and the fillers with the two bytes in front are the stuffing descriptor.
 -- Assumes nothing.
-use mathlib.Core.Path.{_≡_, sym, ap, _∙_}
+use mathlib.Core.Path.{sym, ap, _∙_}
 use native.Mathlib.Omega.{arith}
-use lib.ListN.{length, set, length-set, length-replicate}
+use lib.ListN.{length, length-set, length-replicate}
 use denote.Ref.{now}
 use borrow.Author.Needs.{needs}
 use Rattle.form.specs.Envelope.{stuffingTag, filler}

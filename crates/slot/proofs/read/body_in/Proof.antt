@@ -1,42 +1,92 @@
--- `slot::read::body_in` meets its contract: in good form a descriptor of ours has length 1 at least, and ends inside the slot.
+-- `slot::read::body_in` meets its contract: the form says where the body is.
 -- Assumes nothing.
-use mathlib.Core.Path.{refl}
-use native.Mathlib.Omega.{arith}
-use denote.Ref.{now}
-use Rattle.form.proofs.Laws.{form-body}
-use Rattle.slot.proofs.Reading.{body-part}
+use mathlib.Core.Path.{refl, sym, _∙_}
+use mathlib.Core.Option.{none, some}
+use Rattle.form.specs.declared.good.Form.the-variants as F
+use Rattle.slot.proofs.Reading.{no-body, its-body}
+use borrow.Author.Needs.{needs}
 use Rattle.slot.proofs.read.body_in.Statement.{statement}
 use Rattle.slot.proofs.read.body_in.Tie as tie
 
-shared-slice-read-length : tie.Need-shared-slice-read-length
-shared-slice-read-length c = let f = form-body _ (c .before .pre .0) (c .before .pre .1) in omega arith
+form-of-requires : tie.Need-form-of-requires
+form-of-requires c κs = search needs
 
-cast-end : tie.Need-cast-end
-cast-end c = let f = form-body _ (c .before .pre .0) (c .before .pre .1) in omega (arith, c .shared-slice-known .given 1)
-
-add-end : tie.Need-add-end
-add-end c = let f = form-body _ (c .before .pre .0) (c .before .pre .1) in omega (arith, c .shared-slice-known .given 1)
+enum-told : tie.Need-enum-told
+enum-told c = search needs
 
 sub-result : tie.Need-sub-result
-sub-result c = let f = form-body _ (c .before .pre .0) (c .before .pre .1) in omega arith
+sub-result c = search needs
 
 part-result-start : tie.Need-part-result-start
-part-result-start c = let f = form-body _ (c .before .pre .0) (c .before .pre .1) in omega arith
+part-result-start c = search needs
 
 part-result-end : tie.Need-part-result-end
-part-result-end c = let f = form-body _ (c .before .pre .0) (c .before .pre .1) in omega arith
+part-result-end c = search needs
+
+enum-told-2 : tie.Need-enum-told-2
+enum-told-2 c = search needs
+
+sub-result-2 : tie.Need-sub-result-2
+sub-result-2 c = search needs
+
+part-result-start-2 : tie.Need-part-result-start-2
+part-result-start-2 c = search needs
+
+part-result-end-2 : tie.Need-part-result-end-2
+part-result-end-2 c = search needs
+
+enum-told-3 : tie.Need-enum-told-3
+enum-told-3 c = search needs
+
+sub-result-3 : tie.Need-sub-result-3
+sub-result-3 c = search needs
+
+part-result-start-3 : tie.Need-part-result-start-3
+part-result-start-3 c = search needs
+
+part-result-end-3 : tie.Need-part-result-end-3
+part-result-end-3 c = search needs
+
+enum-known-form : tie.Need-enum-known-form
+enum-known-form c = search needs
+
+body-at-requires : tie.Need-body-at-requires
+body-at-requires c κs = sym (c .before .before .before .form-of .ensures) ∙ c .before .form .given .1
 
 returns : tie.Need-returns
-returns c = body-part (now (c .before .before .args .slot)) _ refl
+returns c = no-body _ F.Size (sym (c .before .enum-told .given .1) ∙ c .before .before .before .form-of .ensures) refl
+
+returns-2 : tie.Need-returns-2
+returns-2 c = no-body _ (F.Broken _) (sym (c .before .enum-told2 .given .1) ∙ c .before .before .before .form-of .ensures) refl
+
+returns-3 : tie.Need-returns-3
+returns-3 c = its-body _ none (sym (c .before .before .before .form-of .ensures) ∙ c .before .enum-told3 .given .1)
+
+returns-4 : tie.Need-returns-4
+returns-4 c =
+    let way = c .before .before in
+    c .body-at .ensures ∙ its-body _ (some _) (sym (way .before .before .form-of .ensures) ∙ way .form .given .1)
 
 pub body-in-spec : {M : Type 1} → statement M
 body-in-spec =
     tie.close
     (tie.spec
-    shared-slice-read-length
-    cast-end
-    add-end
+    form-of-requires
+    enum-told
     sub-result
     part-result-start
     part-result-end
-    returns)
+    enum-told-2
+    sub-result-2
+    part-result-start-2
+    part-result-end-2
+    enum-told-3
+    sub-result-3
+    part-result-start-3
+    part-result-end-3
+    enum-known-form
+    body-at-requires
+    returns
+    returns-2
+    returns-3
+    returns-4)

@@ -11,11 +11,14 @@ use Rattle.slot.proofs.read.in_slot.Tie as tie
 enum-known-answer : tie.Need-enum-known-answer
 enum-known-answer c = search needs
 
-add-t6 : tie.Need-add-t6
-add-t6 c = let l = c .before .before .before .pre .0 _ (sym (ap told (c .before .answer .given .1))) in omega arith
+add-t7 : tie.Need-add-t7
+add-t7 c = search needs
 
-sub-t7 : tie.Need-sub-t7
-sub-t7 c = c .before .before .before .pre .0 _ (sym (ap told (c .before .answer .given .1)))
+add-t8 : tie.Need-add-t8
+add-t8 c = let l = c .before .before .before .pre .0 _ (sym (ap told (c .before .answer .given .1))) in omega arith
+
+sub-t9 : tie.Need-sub-t9
+sub-t9 c = c .before .before .before .pre .0 _ (sym (ap told (c .before .answer .given .1)))
 
 enum-known-answer-2 : tie.Need-enum-known-answer-2
 enum-known-answer-2 c = search needs
@@ -24,8 +27,9 @@ returns : tie.Need-returns
 returns c = rw (c .before .answer .given .1)
 
 returns-2 : tie.Need-returns-2
-returns-2 c = rw (c .before .answer2 .given .1) (placed-refused (c .before .before .before .args .size) (c .before .answer2 .given .0 .0))
+returns-2 c = rw (c .before .answer2 .given .1) (placed-refused _ (c .before .before .before .args .size) (c .before .answer2 .given .0 .0))
 
 pub in-slot-spec : {M : Type 1} → statement M
 in-slot-spec =
-    tie.close (tie.spec enum-known-answer add-t6 sub-t7 enum-known-answer-2 returns returns-2)
+    tie.close
+    (tie.spec enum-known-answer add-t7 add-t8 sub-t9 enum-known-answer-2 returns returns-2)

@@ -1,55 +1,79 @@
--- `slot::read::tail_part` meets its contract: the form and the first tag say which of the three cases it is, and the part of the body's tail is the slot's.
+-- `slot::read::tail_part` meets its contract: the form says where the body is, and the part of the body's tail is the slot's.
 -- Assumes nothing.
-use mathlib.Core.Path.{sym, ap, _∙_}
-use native.Mathlib.Omega.{arith}
+use mathlib.Core.Path.{refl, sym, ap, _∙_}
+use Rattle.form.specs.declared.good.Form.the-variants as F
 use Rattle.slot.specs.Read.{Shown}
 use Rattle.slot.specs.Part.{toldPart, slotPart}
-use Rattle.form.proofs.GoodForm.{form-size}
-use Rattle.slot.proofs.Laws.{shown-empty}
-use Rattle.slot.proofs.Reading.{shown-none, body-size, tells-body}
+use Rattle.slot.proofs.Reading.{shown-none, shown-empty, body-size, tells-body}
 use borrow.Author.Needs.{needs}
 use Rattle.slot.proofs.read.tail_part.Statement.{statement}
 use Rattle.slot.proofs.read.tail_part.Tie as tie
 
-in-form-requires : tie.Need-in-form-requires
-in-form-requires c κs = search needs
+form-of-requires : tie.Need-form-of-requires
+form-of-requires c κs = search needs
 
-shared-slice-read-if2 : tie.Need-shared-slice-read-if2
-shared-slice-read-if2 c = let n = form-size _ (sym (c .before .before .in-form .ensures) ∙ c .before .if1 .taken) in omega arith
+enum-told : tie.Need-enum-told
+enum-told c = search needs
 
-returns : tie.Need-returns
-unfolding slotPart
-returns c =
-    let f = sym (c .before .before .before .in-form .ensures) ∙ c .before .before .if1 .taken in
-    sym (ap (λ (x : Shown). toldPart (x .reading .told)) (shown-empty _ f (omega arith)))
+no-part-requires : tie.Need-no-part-requires
+no-part-requires c κs = search needs
 
-body-in-requires : tie.Need-body-in-requires
-body-in-requires c κs = (sym (c .before .before .before .in-form .ensures) ∙ c .before .before .if1 .taken, omega arith)
+enum-told-2 : tie.Need-enum-told-2
+enum-told-2 c = search needs
+
+no-part-requires-2 : tie.Need-no-part-requires-2
+no-part-requires-2 c κs = search needs
+
+enum-told-3 : tie.Need-enum-told-3
+enum-told-3 c = search needs
+
+no-part-requires-3 : tie.Need-no-part-requires-3
+no-part-requires-3 c κs = search needs
+
+enum-known-form : tie.Need-enum-known-form
+enum-known-form c = search needs
+
+body-at-requires : tie.Need-body-at-requires
+body-at-requires c κs = sym (c .before .before .before .form-of .ensures) ∙ c .before .form .given .1
 
 placed-part-requires : tie.Need-placed-part-requires
 placed-part-requires c κs =
-    let start = c .before .before .before in
-    body-size _ _ (sym (start .before .in-form .ensures) ∙ start .if1 .taken) (c .body-in .ensures)
+    let way = c .before .before in
+    body-size _ _ (sym (way .before .before .form-of .ensures) ∙ way .form .given .1) _ (c .body-at .ensures)
+
+returns : tie.Need-returns
+unfolding slotPart
+returns c = c .no-part .ensures ∙ ap (λ (x : Shown). toldPart (x .reading .told)) (shown-none _ F.Size (sym (c .before .enum-told .given .1) ∙ c .before .before .before .form-of .ensures) refl)
 
 returns-2 : tie.Need-returns-2
 unfolding slotPart
-returns-2 c =
-    let start = c .before .before .before .before in
-    let f = sym (start .before .in-form .ensures) ∙ start .if1 .taken in
-    c .placed-part .ensures ∙ ap toldPart (tells-body _ _ f (omega arith) (c .before .body-in .ensures))
+returns-2 c = c .no-part2 .ensures ∙ ap (λ (x : Shown). toldPart (x .reading .told)) (shown-none _ (F.Broken _) (sym (c .before .enum-told2 .given .1) ∙ c .before .before .before .form-of .ensures) refl)
 
 returns-3 : tie.Need-returns-3
 unfolding slotPart
-returns-3 c = sym (ap (λ (x : Shown). toldPart (x .reading .told)) (shown-none _ (sym (c .before .in-form .ensures) ∙ c .if1 .left)))
+returns-3 c = c .no-part3 .ensures ∙ ap (λ (x : Shown). toldPart (x .reading .told)) (shown-empty _ (sym (c .before .enum-told3 .given .1) ∙ c .before .before .before .form-of .ensures))
+
+returns-4 : tie.Need-returns-4
+unfolding slotPart
+returns-4 c =
+    let way = c .before .before .before in
+    c .placed-part .ensures ∙ ap toldPart (tells-body _ _ (sym (way .before .before .form-of .ensures) ∙ way .form .given .1) _ (c .before .body-at .ensures))
 
 pub tail-part-spec : {M : Type 1} → statement M
 tail-part-spec =
     tie.close
     (tie.spec
-    in-form-requires
-    shared-slice-read-if2
-    returns
-    body-in-requires
+    form-of-requires
+    enum-told
+    no-part-requires
+    enum-told-2
+    no-part-requires-2
+    enum-told-3
+    no-part-requires-3
+    enum-known-form
+    body-at-requires
     placed-part-requires
+    returns
     returns-2
-    returns-3)
+    returns-3
+    returns-4)

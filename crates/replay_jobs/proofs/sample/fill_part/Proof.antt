@@ -1,29 +1,26 @@
--- `replay_jobs::sample::fill` is safe and ends. The buffer keeps its length; the measure is what is left of the count.
+-- `replay_jobs::sample::fill_part` is safe and ends. The buffer keeps its length; the measure is what is left of the part.
 -- Assumes nothing.
 use Prim.Native.Nat.{_-_}
 use mathlib.Core.Path.{_≡_}
 use borrow.Author.Needs.{needs}
 use lib.ListN.{length}
-use Rattle.replay_jobs.proofs.sample.fill.Statement.{statement}
-use Rattle.replay_jobs.proofs.sample.fill.Tie as tie
+use Rattle.replay_jobs.proofs.sample.fill_part.Statement.{statement}
+use Rattle.replay_jobs.proofs.sample.fill_part.Tie as tie
 
 abbrev Inv-loop : tie.InvT-loop
-Inv-loop bytes₀ n case x₀ i₀ bytes x i = length bytes ≡ length bytes₀
+Inv-loop bytes₀ start end case x₀ i₀ bytes x i = length bytes ≡ length bytes₀
 
 abbrev μ-loop : tie.MeasureT-loop
-μ-loop bytes₀ n case x₀ i₀ bytes x i = n - i
+μ-loop bytes₀ start end case x₀ i₀ bytes x i = end - i
 
-next-requires : tie.Need-next-requires Inv-loop μ-loop
-next-requires c κs = search needs
-
-next-requires-2 : tie.Need-next-requires-2 Inv-loop μ-loop
-next-requires-2 c κs = search needs
+seed-requires : tie.Need-seed-requires Inv-loop μ-loop
+seed-requires c κs = search needs
 
 loop-holds : tie.Need-loop-holds Inv-loop μ-loop
 loop-holds c = search needs
 
-next-requires-3 : tie.Need-next-requires-3 Inv-loop μ-loop
-next-requires-3 c κs = search needs
+next-requires : tie.Need-next-requires Inv-loop μ-loop
+next-requires c κs = search needs
 
 high-byte-requires : tie.Need-high-byte-requires Inv-loop μ-loop
 high-byte-requires c κs = search needs
@@ -46,16 +43,15 @@ same-length c = search needs
 returns : tie.Need-returns Inv-loop μ-loop
 returns c = search needs
 
-pub fill-spec : {M : Type 1} → statement M
-fill-spec =
+pub fill-part-spec : {M : Type 1} → statement M
+fill-part-spec =
     tie.close
     (tie.spec
     Inv-loop
     μ-loop
-    next-requires
-    next-requires-2
+    seed-requires
     loop-holds
-    next-requires-3
+    next-requires
     high-byte-requires
     put-requires
     add-i

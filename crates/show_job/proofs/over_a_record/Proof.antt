@@ -1,11 +1,11 @@
--- `show_job::main` is safe and ends: no call requires anything of the slot or the job, and the steps are counted.
+-- `show_job::over_a_record` is safe and ends: no call requires anything of the slot or the job, and the steps are counted.
 -- Assumes nothing.
 use Prim.Native.Nat.{_-_, _≤_}
 use mathlib.Core.Path.{_≡_}
 use borrow.Author.Needs.{needs}
 use lib.ListN.{length}
-use Rattle.show_job.proofs.main.Statement.{statement}
-use Rattle.show_job.proofs.main.Tie as tie
+use Rattle.show_job.proofs.over_a_record.Statement.{statement}
+use Rattle.show_job.proofs.over_a_record.Tie as tie
 
 abbrev Inv-loop : tie.InvT-loop
 Inv-loop s₀ j₀ k₀ s j k = (length s ≡ 25) × (k ≤ 27)
@@ -85,8 +85,8 @@ loop-again c = search needs
 returns : tie.Need-returns Inv-loop μ-loop
 returns c = search needs
 
-pub main-spec : {M : Type 1} → statement M
-main-spec =
+pub over-a-record-spec : {M : Type 1} → statement M
+over-a-record-spec =
     tie.close
     (tie.spec
     Inv-loop
