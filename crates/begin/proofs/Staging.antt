@@ -17,11 +17,9 @@ use Rattle.s2xv2.proofs.Whole.{encode-length}
 use Rattle.s2xv2.proofs.Written.{Writable, accepted-writable, told-written}
 use Rattle.s2xv2_writer.specs.Wrote.{Wrote}
 use Rattle.form.specs.Envelope.{tag, extension}
-use Rattle.form.specs.Form.{goodForm}
-use Rattle.form.proofs.GoodForm.{form-size}
 use Rattle.job.specs.declared.job.Job.{Job}
 use Rattle.job.specs.Job.{jobOf, fitsIn}
-use Rattle.begin.specs.Begin.{padded, newJob, sizeOf, descriptorOf, Sized, Staged, stageTold, beginTold, Begins, answered, beginOf}
+use Rattle.begin.specs.Begin.{padded, newJob, sizeOf, descriptorOf, Sized, Staged, stageTold, recordTold, Begins, answered}
 use Rattle.begin.proofs.Telling.{accepts, told-stores, told-fits, told-fit}
 
 drop-zeros : (e m : ℕ) → e ≤ m → drop {A = ℕ} e (replicate m 0) ≡ replicate (m - e) 0
@@ -102,16 +100,14 @@ module _ (z : List ℕ) (zeros : z ≡ replicate 257 0) where
         let b = staged-is (n + 3) r tail s (can .fits) body w in
         record { size = s; written = ap numberOf told; bytes = laid body (n + 1) ∙ ap (λ (v : ℕ). tag ∷ v ∷ extension ∷ (body ++ [])) v ∙ b }
 
--- what is staged and fits a slot in good form is begun
-pub begun : (s : List ℕ) (r : S2Xv2SatelliteDeliverySystem) (tail staged : List ℕ) (d : ℕ) → goodForm s ≡ true → Staged d r tail staged
-    → fitsIn d (length s) ≡ true → _≡_ {A = Begins} (record { told = 0 ∷ (length s + 2) ∷ []; job = jobOf staged (length s) d 0 }) (beginOf s r tail)
-unfolding beginOf
-begun s r tail staged d form S fits =
-    let n = length s in
+-- what is staged and fits a slot of n bytes is begun there
+pub begun : (n : ℕ) (r : S2Xv2SatelliteDeliverySystem) (tail staged : List ℕ) (d : ℕ) → (21 ≤ n) × (n ≤ 257) → Staged d r tail staged → fitsIn d n ≡ true
+    → _≡_ {A = Begins} (record { told = 0 ∷ (n + 2) ∷ []; job = jobOf staged n d 0 }) (answered (recordTold n r tail) n r tail)
+begun n r tail staged d slot S fits =
     let can = accepted-writable r tail 254 (S .written) in
-    let sized : Sized n d r tail = record { slot = form-size s form; size = S .size; within = can .within; consistent = can .consistent } in
+    let sized : Sized n d r tail = record { slot = slot; size = S .size; within = can .within; consistent = can .consistent } in
     let tells = told-written r tail (can .consistent) (can .within) 254 (can .fits) (can .carried) in
     let told =
     told-stores n r tail 254 (can .consistent) (can .within) (can .fits) (encodedLength r tail) (sym tells)
-    ∙ told-fits sized fits ∙ told-fit s r tail form (can .consistent) (can .within) in
-    accepts n r tail (beginTold s r tail) (n + 2) _ told (ap {B = Job} (λ (t : List ℕ). jobOf t n d 0) (S .bytes) ∙ job-is d r tail (S .size) (can .fits) n)
+    ∙ told-fits sized fits ∙ told-fit n r tail (can .consistent) (can .within) in
+    accepts n r tail (recordTold n r tail) (n + 2) _ told (ap {B = Job} (λ (t : List ℕ). jobOf t n d 0) (S .bytes) ∙ job-is d r tail (S .size) (can .fits) n)

@@ -9,12 +9,15 @@
 -- `Staged`        a descriptor that the writer accepts is staged, and this is its size
 -- `stageTold`     what is told once the descriptor is known to fit
 -- `fitTold`       what is told once its length is known
+-- `recordTold`    what is told once the slot is known to be in good form
+-- `formTold`      what is told of a slot, by its form
 -- `beginTold`     what is told of any slot, record and tail
 -- `Begins`        an answer in numbers, with the job
 -- `begunSeen`     that of what the call returns
 -- `answered`      that of what is told, with the job or `noJob`
 -- `beginOf`       what begin answers for a slot, a record and its tail
 -- `beginPlain`    the same for the record that plain numbers mean
+-- `sizedPlain`    that once the slot is known to be in good form
 -- `sizesOf`       the numbers of a job, as they cross
 use Prim.Native.Nat.{ℕ, _+_, _-_, _≤_}
 use mathlib.Core.Path.{_≡_}
@@ -32,7 +35,9 @@ use Rattle.s2xv2.specs.ListB.{unwritable}
 use Rattle.s2xv2.specs.Write.{writeTold}
 use Rattle.s2xv2_plain.specs.Input.{meant}
 use Rattle.form.specs.Envelope.{envelope, envelopeSize}
-use Rattle.form.specs.Form.{goodForm}
+use Rattle.form.specs.Form.{formOf}
+use Rattle.form.specs.declared.good.Form.{Form}
+use Rattle.form.specs.declared.good.Form.the-variants as F
 use Rattle.job.specs.declared.job.Job.{Job}
 use Rattle.job.specs.Job.{jobOf, fitsIn}
 use Rattle.begin.specs.declared.Begun.{Begun}
@@ -80,13 +85,22 @@ stageTold n r = when (ltb 0 (unwritable r)) (numbers (R.Field (unwritable r))) (
 unfoldable pub fitTold : ℕ → S2Xv2SatelliteDeliverySystem → List ℕ → List ℕ
 fitTold n r tail = when (fitsIn (sizeOf r tail) n) (stageTold n r) (numbers (R.NoFit (sizeOf r tail)))
 
+-- .. once the slot is known to be in good form: 3 and 2 before that
+unfoldable pub recordTold : ℕ → S2Xv2SatelliteDeliverySystem → List ℕ → List ℕ
+recordTold n r tail =
+    when (ltb 0 (inconsistency r)) (numbers (R.Inconsistent (inconsistency r)))
+    (when (ltb 4096 (encodedLength r tail)) (numbers (R.Long (saturated (encodedLength r tail)))) (fitTold n r tail))
+
+-- .. of a slot of any form: 6 before that
+abbrev pub formTold : Form → List ℕ → List ℕ
+formTold F.Size otherwise = numbers R.Slot
+formTold (F.Broken at) otherwise = numbers R.Slot
+formTold F.Empty otherwise = otherwise
+formTold (F.Ours at) otherwise = otherwise
+
 -- 6, 3, 2, 7, 4, in this order, else accepted with the number of stores
 unfoldable pub beginTold : List ℕ → S2Xv2SatelliteDeliverySystem → List ℕ → List ℕ
-beginTold s r tail =
-    when (goodForm s)
-    (when (ltb 0 (inconsistency r)) (numbers (R.Inconsistent (inconsistency r)))
-    (when (ltb 4096 (encodedLength r tail)) (numbers (R.Long (saturated (encodedLength r tail)))) (fitTold (length s) r tail)))
-    (numbers R.Slot)
+beginTold s r tail = formTold (formOf s) (recordTold (length s) r tail)
 
 -- the answer in numbers, and the job
 pub record Begins : Type 0 where
@@ -104,8 +118,12 @@ answered told n r tail = record { told = told; job = when (eqb (numberOf told) 0
 unfoldable pub beginOf : List ℕ → S2Xv2SatelliteDeliverySystem → List ℕ → Begins
 beginOf s r tail = answered (beginTold s r tail) (length s) r tail
 
+-- .. for the record that plain numbers mean, and for one in a slot of n bytes that is known to be in good form
 abbrev pub beginPlain : List ℕ → List ℕ → List ℕ → List ℕ → Begins
 beginPlain s ws bs tail = beginOf s (meant ws bs) tail
+
+abbrev pub sizedPlain : ℕ → List ℕ → List ℕ → List ℕ → Begins
+sizedPlain n ws bs tail = answered (recordTold n (meant ws bs) tail) n (meant ws bs) tail
 
 -- its slot size, its descriptor size, and the stores made
 abbrev pub sizesOf : Job → List ℕ

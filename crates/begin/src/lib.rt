@@ -7,15 +7,17 @@ ghost use Rattle.answers.specs.Answer.{numbers};
 ghost use Rattle.job.specs.Job.{jobOf, fitsIn};
 ghost use Rattle.s2xv2_plain.specs.Input.{meant};
 ghost use Rattle.answers.specs.Plain.{answerOut};
-ghost use Rattle.begin.specs.Begin.{Sized, noJob, fitTold, stageTold, begunSeen, answered, beginOf, beginPlain, sizesOf, stagedSize, Staged};
+ghost use Rattle.begin.specs.Begin.{Sized, noJob, recordTold, fitTold, stageTold, begunSeen, answered, beginOf, beginPlain, sizedPlain, sizesOf, stagedSize, Staged};
 use answers::answer::Answer;
 use answers::answer::Refusal;
 use answers::plain::PlainAnswer;
 use answers::plain::accepted;
 use answers::plain::answer_out;
+use answers::plain::refusal_out;
 use form::envelope::EXTENSION;
 use form::envelope::TAG;
-use form::good::in_form;
+use form::good::Form;
+use form::good::form_of;
 use job::job::Job;
 use s2xv2::record::S2Xv2SatelliteDeliverySystem;
 use s2xv2_plain::input::of_plain;
@@ -105,19 +107,28 @@ fn fit(n: usize, d: usize, r: S2Xv2SatelliteDeliverySystem, reserved_tail: &[u8]
     refused(Refusal::NoFit { size: d })
 }
 
-// A job that is to store the record and its tail in the slot. Stores nothing. Refuses a slot that is not in good form, a record that contradicts itself, an
-// encoding of more than 4,096 bytes, a descriptor that does not fit, and a value that the wire cannot carry, in this order.
+// Begins in a slot of `n` bytes that is in good form: judges the record and its length, then the fit.
+fn begin_sized(n: usize, r: S2Xv2SatelliteDeliverySystem, reserved_tail: &[u8]) -> Begun
+    requires { ⌜ (21 ≤ n) × (n ≤ 257) ⌝ }
+    ensures { λ b. ⌜ begunSeen b ≡ answered (recordTold n r (now («reserved_tail» .entry))) n r (now («reserved_tail» .entry)) ⌝ }
+{
+    let answer = s2xv2_measure::serialized_len(r, reserved_tail);
+    match answer {
+        Answer::Accepted(length) => fit(n, length + 3, r, reserved_tail),
+        Answer::Refused(why) => refused(why),
+    }
+}
+
+// A job that is to store the record and its tail in the slot. Stores nothing. Refuses a slot of a wrong size, one that is not in good form, a record that
+// contradicts itself, an encoding of more than 4,096 bytes, a descriptor that does not fit, and a value that the wire cannot carry, in this order.
 pub fn begin(slot: &[u8], r: S2Xv2SatelliteDeliverySystem, reserved_tail: &[u8]) -> Begun
     ensures { λ b. ⌜ begunSeen b ≡ beginOf (now (slot .entry)) r (now («reserved_tail» .entry)) ⌝ }
 {
-    if in_form(slot) {
-        let answer = s2xv2_measure::serialized_len(r, reserved_tail);
-        match answer {
-            Answer::Accepted(length) => fit(slot.len(), length + 3, r, reserved_tail),
-            Answer::Refused(why) => refused(why),
-        }
-    } else {
-        refused(Refusal::Slot)
+    let form = form_of(slot);
+    match form {
+        Form::Size => refused(Refusal::Slot),
+        Form::Broken { at: _ } => refused(Refusal::Slot),
+        Form::Empty | Form::Ours { at: _ } => begin_sized(slot.len(), r, reserved_tail),
     }
 }
 
@@ -136,8 +147,48 @@ fn stage_plain(w: &[u32; 10], b: &[u8; 36], reserved_tail: &[u8], staged: &mut [
     length + 3
 }
 
-// `begin` of the record that plain numbers mean, into a job that is lent: its staged bytes, and its slot size, its descriptor size and the stores made. One
-// that passes the writer's quick tests and fits is judged and written once; any other goes the long way.
+// A refused begin, into a job that is lent: there is none.
+fn refused_plain(why: Refusal, staged: &mut [u8; 257], sizes: &mut [usize; 3]) -> PlainAnswer
+    ensures answer { λ a. ⌜ a ≡ answerOut (numbers why) ⌝ }
+    ensures bytes { λ _. ⌜ now (staged .exit) ≡ noJob .staged ⌝ }
+    ensures numbers { λ _. ⌜ now (sizes .exit) ≡ sizesOf noJob ⌝ }
+{
+    *staged = [0u8; 257];
+    *sizes = [0, 0, 0];
+    refusal_out(why)
+}
+
+// `begin_sized` of the record that plain numbers mean, into a job that is lent. One that passes the writer's quick tests and fits is judged and written once;
+// any other goes the long way.
+fn sized_plain(
+    n: usize,
+    w: &[u32; 10],
+    b: &[u8; 36],
+    reserved_tail: &[u8],
+    staged: &mut [u8; 257],
+    sizes: &mut [usize; 3],
+) -> PlainAnswer
+    requires { ⌜ (21 ≤ n) × (n ≤ 257) ⌝ }
+    ensures answer { λ a. ⌜ a ≡ answerOut (sizedPlain n (now (w .entry)) (now (b .entry)) (now («reserved_tail» .entry)) .told) ⌝ }
+    ensures bytes { λ _. ⌜ now (staged .exit) ≡ sizedPlain n (now (w .entry)) (now (b .entry)) (now («reserved_tail» .entry)) .job .staged ⌝ }
+    ensures numbers { λ _. ⌜ now (sizes .exit) ≡ sizesOf (sizedPlain n (now (w .entry)) (now (b .entry)) (now («reserved_tail» .entry)) .job) ⌝ }
+{
+    *staged = [0u8; 257];
+    let d = stage_plain(w, b, reserved_tail, staged);
+    if (d != 0) && is_fit(d, n) {
+        *sizes = [n, d, 0];
+        return accepted((n + 2) as u16);
+    }
+    let begun = begin_sized(n, of_plain(w, b), reserved_tail);
+    let answer = begun.answer;
+    let job = begun.job;
+    let bytes = job.staged;
+    *staged = bytes;
+    *sizes = [job.slot_size, job.descriptor_size, job.stores_made];
+    answer_out(answer)
+}
+
+// `begin` of the record that plain numbers mean, into a job that is lent: its staged bytes, and its slot size, its descriptor size and the stores made.
 pub fn begin_plain(
     slot: &[u8],
     w: &[u32; 10],
@@ -151,20 +202,17 @@ pub fn begin_plain(
     ensures numbers { λ _. ⌜ now (sizes .exit)
         ≡ sizesOf (beginPlain (now (slot .entry)) (now (w .entry)) (now (b .entry)) (now («reserved_tail» .entry)) .job) ⌝ }
 {
-    if in_form(slot) {
-        let n = slot.len();
-        *staged = [0u8; 257];
-        let d = stage_plain(w, b, reserved_tail, staged);
-        if (d != 0) && is_fit(d, n) {
-            *sizes = [n, d, 0];
-            return accepted((n + 2) as u16);
-        }
+    let form = form_of(slot);
+    match form {
+        Form::Size => refused_plain(Refusal::Slot, staged, sizes),
+        Form::Broken { at: _ } => refused_plain(Refusal::Slot, staged, sizes),
+        Form::Empty | Form::Ours { at: _ } => sized_plain(
+            slot.len(),
+            w,
+            b,
+            reserved_tail,
+            staged,
+            sizes,
+        ),
     }
-    let begun = begin(slot, of_plain(w, b), reserved_tail);
-    let answer = begun.answer;
-    let job = begun.job;
-    let bytes = job.staged;
-    *staged = bytes;
-    *sizes = [job.slot_size, job.descriptor_size, job.stores_made];
-    answer_out(answer)
 }

@@ -3,7 +3,6 @@
 use mathlib.Core.Path.{_≡_, refl, sym, ap, _∙_}
 use mathlib.Core.Bool.{Bool, true, false}
 use mathlib.Core.List.{List, [], _∷_}
-use mathlib.Core.Option.{Option, none, some}
 use Prim.Native.Nat.{ℕ, suc, zero, _+_, _-_}
 use native.Mathlib.Omega.{arith}
 use borrow.Author.Tests.{eqb-true}
@@ -15,8 +14,10 @@ use Rattle.answers.specs.Answer.{numberOf}
 use Rattle.s2xv2.specs.Read.{readTold, bodySize, tailOf}
 use Rattle.s2xv2.proofs.Reach.{accepted-reaches, told-accepted}
 use Rattle.s2xv2_reader.proofs.Laws.{rest}
-use Rattle.form.specs.Form.{byteAt, bodyAt, goodForm, ours}
-use Rattle.slot.specs.Read.{placed, showsBody, showsOurs, showsNone, shown}
+use Rattle.form.specs.Form.{byteAt, bodyAt, formOf}
+use Rattle.form.specs.declared.good.Form.{Form}
+use Rattle.form.specs.declared.good.Form.the-variants as F
+use Rattle.slot.specs.Read.{placed, showsBody, showsForm, shown}
 use Rattle.slot.specs.Part.{noPart, toldPart, slotPart}
 use Rattle.capi.specs.Part.{partIn, tailPart}
 
@@ -69,9 +70,10 @@ module _ (s : List ℕ) (at : ℕ) where
 
 pub cut-slot : (s : List ℕ) → partIn (slotPart s) s ≡ shown s .tail
 unfolding slotPart shown showsBody
-cut-slot s = go (goodForm s) (ours s)
+cut-slot s = go (formOf s)
   where
-    go : (g : Bool) (o : Option ℕ) → partIn (toldPart (when g (showsOurs s o) showsNone .reading .told)) s ≡ when g (showsOurs s o) showsNone .tail
-    go true none = refl
-    go true (some at) = in-body s at
-    go false o = refl
+    go : (f : Form) → partIn (toldPart (showsForm s f .reading .told)) s ≡ showsForm s f .tail
+    go F.Size = refl
+    go (F.Broken at) = refl
+    go F.Empty = refl
+    go (F.Ours at) = in-body s at

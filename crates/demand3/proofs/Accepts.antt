@@ -1,6 +1,6 @@
 -- Begin accepts exactly where demand 3 speaks: each test of its answer is one of the facts of `Ready`.
 -- Assumes nothing.
-use mathlib.Core.Path.{_≡_, refl}
+use mathlib.Core.Path.{_≡_, refl, ap, _∙_}
 use mathlib.Core.List.{List, [], _∷_}
 use mathlib.Core.Bool.{Bool, true, false}
 use Prim.Native.Nat.{ℕ, _+_, _≤_}
@@ -20,17 +20,18 @@ use Rattle.s2xv2.specs.Write.{writeTold}
 use Rattle.form.specs.Form.{goodForm}
 use Rattle.form.proofs.GoodForm.{form-size}
 use Rattle.job.specs.Job.{fitsIn}
-use Rattle.begin.specs.Begin.{sizeOf, descriptorOf, newJob, beginTold, fitTold, stageTold, beginOf}
+use Rattle.begin.specs.Begin.{sizeOf, descriptorOf, newJob, stageTold, fitTold, recordTold, beginTold, beginOf}
+use Rattle.begin.proofs.Telling.{told-record, accepted-form}
 use Rattle.job.proofs.Fairness.{fits-facts}
 use Rattle.demand3.specs.Demand3.{Ready}
 
 -- what begin tells where all of its tests pass
 pub told-ready : {s : List ℕ} {r : S2Xv2SatelliteDeliverySystem} {tail : List ℕ} → Ready s r tail → beginTold s r tail ≡ 0 ∷ (length s + 2) ∷ []
-unfolding beginTold fitTold stageTold
+unfolding recordTold fitTold stageTold
 told-ready {s} {r} {tail} R =
     let n = form-size s (R .form) in
     let f = fits-facts (sizeOf r tail) (length s) (R .fits) in
-    rw (R .form, R .consistent, le-ltb 4096 (encodedLength r tail) (omega arith), R .fits, R .writable)
+    rw (← told-record s r tail (R .form), R .consistent, le-ltb 4096 (encodedLength r tail) (omega arith), R .fits, R .writable)
 
 -- .. and that it answers the job
 pub begins : {s : List ℕ} {r : S2Xv2SatelliteDeliverySystem} {tail : List ℕ} → Ready s r tail
@@ -57,9 +58,6 @@ module _ (s : List ℕ) (r : S2Xv2SatelliteDeliverySystem) (tail : List ℕ) whe
   abbrev told₂ : List ℕ
   told₂ = when (ltb 4096 (encodedLength r tail)) (2 ∷ saturated (encodedLength r tail) ∷ []) told₇
 
-  abbrev told₃ : List ℕ
-  told₃ = when (ltb 0 (inconsistency r)) (3 ∷ inconsistency r ∷ []) told₂
-
   -- what is so where begin accepts
   pub record Accepted : Type 0 where
     pub form : goodForm s ≡ true
@@ -68,16 +66,16 @@ module _ (s : List ℕ) (r : S2Xv2SatelliteDeliverySystem) (tail : List ℕ) whe
     pub fits : fitsIn (sizeOf r tail) (length s) ≡ true
 
   pub accepted : numberOf (beginTold s r tail) ≡ 0 → Accepted
-  unfolding beginTold fitTold stageTold
+  unfolding recordTold fitTold stageTold
   accepted e =
-      let a₆ = zero-then (goodForm s) told₃ (6 ∷ []) e (λ (z : _≡_ {A = ℕ} 6 0). omega arith) in
-      let a₃ = zero-else (ltb 0 (inconsistency r)) (3 ∷ inconsistency r ∷ []) told₂ (a₆ .1) (λ (z : _≡_ {A = ℕ} 3 0). omega arith) in
+      let f = accepted-form s r tail e in
+      let a₃ = zero-else (ltb 0 (inconsistency r)) (3 ∷ inconsistency r ∷ []) told₂ (ap numberOf (told-record s r tail f) ∙ e) (λ (z : _≡_ {A = ℕ} 3 0). omega arith) in
       let a₂ = zero-else (ltb 4096 (encodedLength r tail)) (2 ∷ saturated (encodedLength r tail) ∷ []) told₇ (a₃ .1) (λ (z : _≡_ {A = ℕ} 2 0). omega arith) in
       let a₇ = zero-then (fitsIn (sizeOf r tail) (length s)) told₄ (7 ∷ sizeOf r tail ∷ []) (a₂ .1) (λ (z : _≡_ {A = ℕ} 7 0). omega arith) in
       let a₄ = zero-else (ltb 0 (unwritable r)) (4 ∷ unwritable r ∷ []) (0 ∷ (length s + 2) ∷ []) (a₇ .1) (λ (z : _≡_ {A = ℕ} 4 0). omega arith) in
       let i : inconsistency r ≤ 0 = ltb-false 0 (inconsistency r) (a₃ .0) in
       let w : unwritable r ≤ 0 = ltb-false 0 (unwritable r) (a₄ .0) in
-      record { form = a₆ .0; consistent = omega arith; writable = omega arith; fits = a₇ .0 }
+      record { form = f; consistent = omega arith; writable = omega arith; fits = a₇ .0 }
 
   -- Where begin accepts a record, with what the types say of it and of its tail, demand 3 speaks.
   pub ready : Held r → Bytes tail → numberOf (beginTold s r tail) ≡ 0 → Ready s r tail

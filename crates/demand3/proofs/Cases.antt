@@ -15,11 +15,12 @@ use Rattle.s2xv2.specs.ListB.{unwritable}
 use Rattle.s2xv2.specs.Write.{writeTold}
 use Rattle.s2xv2.proofs.Cases.{Row, _gives_, right, table}
 use Rattle.form.specs.Envelope.{stuffing}
-use Rattle.form.specs.Walk.{walkFrom, descriptors, stop}
-use Rattle.form.specs.Form.{goodSize, isOurs, goodForm}
+use Rattle.form.specs.Walk.{walkFrom, descriptors}
+use Rattle.form.specs.Form.{goodSize, isOurs, goodForm, firstOurs, ours, breaksFrom, breaks, formOf}
 use Rattle.job.specs.Job.{fitsIn, fair}
 use Rattle.job.specs.Step.{stepOf}
-use Rattle.begin.specs.Begin.{beginTold, fitTold, stageTold, beginOf}
+use Rattle.begin.specs.Begin.{stageTold, fitTold, recordTold, beginTold, beginOf}
+use Rattle.begin.proofs.Telling.{told-record}
 
 -- the answer of begin, for the record whose body is 18 bytes of 0, on an empty slot of n bytes
 abbrev begin : ℕ → List ℕ
@@ -39,15 +40,15 @@ slotTable =
 
 -- Every row of the whole table, bodies and slots, is right.
 pub cases : right (table ++ slotTable) ≡ true
-unfolding beginTold fitTold stageTold beginOf stepOf fair fitsIn goodForm goodSize isOurs walkFrom descriptors stop stuffing defaultRecord encode encodedLength partsOf byteParts scramblingParts bondParts superframeParts inconsistency unwritable readTold presentIn bodySize leastTotal recordAt superframeAt modeOf writeTold
+unfolding beginTold recordTold fitTold stageTold beginOf stepOf fair fitsIn formOf breaks breaksFrom goodSize isOurs firstOurs ours walkFrom descriptors stuffing defaultRecord encode encodedLength partsOf byteParts scramblingParts bondParts superframeParts inconsistency unwritable readTold presentIn bodySize leastTotal recordAt superframeAt modeOf writeTold
 cases = refl
 
 -- The two rows hold of every slot in good form and every record with a body of 18 bytes that lists A and B pass.
 module _ (s : List ℕ) (r : S2Xv2SatelliteDeliverySystem) (tail : List ℕ) (form : goodForm s ≡ true) (a : inconsistency r ≡ 0) (l : encodedLength r tail ≡ 18) where
   pub slot-22 : length s ≡ 22 → beginTold s r tail ≡ 7 ∷ 21 ∷ []
-  unfolding beginTold fitTold stageTold fitsIn
-  slot-22 n = rw (form, a, l, n)
+  unfolding recordTold fitTold stageTold fitsIn
+  slot-22 n = rw (← told-record s r tail form, a, l, n)
 
   pub slot-21 : unwritable r ≡ 0 → length s ≡ 21 → beginTold s r tail ≡ 0 ∷ 23 ∷ []
-  unfolding beginTold fitTold stageTold fitsIn
-  slot-21 b n = rw (form, a, l, n, b)
+  unfolding recordTold fitTold stageTold fitsIn
+  slot-21 b n = rw (← told-record s r tail form, a, l, n, b)

@@ -13,12 +13,12 @@ use Rattle.answers.specs.Answer.{numberOf}
 use Rattle.s2xv2.specs.Carried.{carried}
 use Rattle.s2xv2.proofs.Ignored.{same-inconsistency, same-length, same-unwritable, same-encode}
 use Rattle.job.specs.declared.job.Job.{Job}
-use Rattle.begin.specs.Begin.{Begins, newJob, noJob, descriptorOf, stageTold, fitTold, beginTold, beginOf}
+use Rattle.begin.specs.Begin.{Begins, newJob, noJob, descriptorOf, stageTold, fitTold, recordTold, beginTold, beginOf}
 use Rattle.demand3.proofs.Accepts.{accepted}
 
 module _ (s : List ℕ) (r : S2Xv2SatelliteDeliverySystem) (tail : List ℕ) where
   told-alike : beginTold s (carried r) tail ≡ beginTold s r tail
-  unfolding beginTold fitTold stageTold
+  unfolding beginTold recordTold fitTold stageTold
   told-alike = rw (same-inconsistency r, same-length r tail, same-unwritable r)
 
   pub begin-ignores : beginOf s (carried r) tail ≡ beginOf s r tail

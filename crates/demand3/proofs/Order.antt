@@ -15,8 +15,8 @@ use Rattle.s2xv2.specs.Table144c.{modeOf}
 use Rattle.stores.specs.declared.store.Store.{Store}
 use Rattle.stores.specs.Run.{run, upwards}
 use Rattle.form.specs.Envelope.{stuffing, holding}
-use Rattle.form.specs.Walk.{walkFrom, descriptors, stop}
-use Rattle.form.specs.Form.{goodSize, isOurs, goodForm, firstOurs, ours}
+use Rattle.form.specs.Walk.{walkFrom, descriptors}
+use Rattle.form.specs.Form.{goodSize, isOurs, firstOurs, ours, breaksFrom, breaks, formOf}
 use Rattle.job.specs.Stores.{behind, covered, stores}
 use Rattle.slot.specs.Read.{Shown, showsBody, shown, ReadsAs}
 use Rattle.demand3.specs.Demand3.{jobStores, readsAfter, due}
@@ -39,10 +39,10 @@ never-empty ps k e d h = let z : _≡_ {A = ℕ} 3 1 = ap length (sym e ∙ ap (
 
 -- With its first two stores exchanged a job does not meet demand 3 ..
 pub first-two-exchanged : Demanded (take 1 (drop 1 its) ++ (take 1 its ++ drop 2 its)) → ⊥
-unfolding run upwards stores covered behind holding stuffing shown showsBody readsAfter goodForm goodSize isOurs firstOurs ours walkFrom descriptors stop defaultRecord encode encodedLength partsOf byteParts scramblingParts bondParts superframeParts readTold presentIn bodySize modeOf
+unfolding run upwards stores covered behind holding stuffing shown showsBody readsAfter formOf breaks breaksFrom goodSize isOurs firstOurs ours walkFrom descriptors defaultRecord encode encodedLength partsOf byteParts scramblingParts bondParts superframeParts readTold presentIn bodySize modeOf
 first-two-exchanged = never-empty (take 1 (drop 1 its) ++ (take 1 its ++ drop 2 its)) 1 refl refl
 
 -- .. nor with its last two exchanged.
 pub last-two-exchanged : Demanded (take 25 its ++ (drop 26 its ++ take 1 (drop 25 its))) → ⊥
-unfolding run upwards stores covered behind holding stuffing shown showsBody readsAfter goodForm goodSize isOurs firstOurs ours walkFrom descriptors stop defaultRecord encode encodedLength partsOf byteParts scramblingParts bondParts superframeParts readTold presentIn bodySize modeOf
+unfolding run upwards stores covered behind holding stuffing shown showsBody readsAfter formOf breaks breaksFrom goodSize isOurs firstOurs ours walkFrom descriptors defaultRecord encode encodedLength partsOf byteParts scramblingParts bondParts superframeParts readTold presentIn bodySize modeOf
 last-two-exchanged = never-empty (take 25 its ++ (drop 26 its ++ take 1 (drop 25 its))) 26 refl refl

@@ -1,5 +1,5 @@
 -- A job begun where any number of others were stopped ends as on a slot never interrupted: these leave the slot in good form, begin asks
--- of a slot only its form and its size, and all stores of a job leave the same bytes whatever stood there.
+-- of a slot in good form only its size, and all stores of a job leave the same bytes whatever stood there.
 -- Assumes nothing.
 use mathlib.Core.Path.{_≡_, refl, sym, ap, ap₂, _∙_}
 use mathlib.Core.List.{List, [], _∷_}
@@ -16,7 +16,8 @@ use Rattle.answers.specs.Answer.{numberOf}
 use Rattle.stores.proofs.Laws.{run-length}
 use Rattle.form.specs.Envelope.{holding}
 use Rattle.form.specs.Form.{goodForm}
-use Rattle.begin.specs.Begin.{noJob, beginTold, beginOf, descriptorOf}
+use Rattle.begin.specs.Begin.{noJob, recordTold, beginTold, beginOf, descriptorOf}
+use Rattle.begin.proofs.Telling.{told-record}
 use Rattle.begin.proofs.NoJob.{no-job-refused, no-job-stores-nothing}
 use Rattle.job.specs.Step.{Steps}
 use Rattle.job.proofs.Lists.{stores-length}
@@ -27,14 +28,14 @@ use Rattle.demand3.proofs.Accepts.{ready}
 use Rattle.demand3.proofs.Fold.{fits-it, ends}
 use Rattle.demand3.proofs.Steps.{after-steps, demand3-steps}
 
--- begin asks of a slot only its form and its size
-same-told : (s t : List ℕ) (r : S2Xv2SatelliteDeliverySystem) (tail : List ℕ) → goodForm t ≡ goodForm s → length t ≡ length s → beginTold t r tail ≡ beginTold s r tail
-unfolding beginTold
-same-told s t r tail f e = rw (f, e)
+-- of a slot in good form begin asks only its size
+module _ (s t : List ℕ) (r : S2Xv2SatelliteDeliverySystem) (tail : List ℕ) (f : goodForm s ≡ true) (g : goodForm t ≡ true) (e : length t ≡ length s) where
+  same-told : beginTold t r tail ≡ beginTold s r tail
+  same-told = sym (told-record t r tail g) ∙ ap (λ (n : ℕ). recordTold n r tail) e ∙ told-record s r tail f
 
-same-begin : (s t : List ℕ) (r : S2Xv2SatelliteDeliverySystem) (tail : List ℕ) → goodForm t ≡ goodForm s → length t ≡ length s → beginOf t r tail ≡ beginOf s r tail
-unfolding beginOf
-same-begin s t r tail f e = rw (same-told s t r tail f e, e)
+  same-begin : beginOf t r tail ≡ beginOf s r tail
+  unfolding beginOf
+  same-begin = rw (same-told, e)
 
 -- a slot as it was left stays one where demand 3 speaks
 ready-there : {s t : List ℕ} {r : S2Xv2SatelliteDeliverySystem} {tail : List ℕ} → Ready s r tail → goodForm t ≡ true → length t ≡ length s → Ready t r tail
@@ -96,7 +97,7 @@ module _ (s : List ℕ) (form : goodForm s ≡ true) (xs : List Stopped) (typed 
 
   -- Begin answers there as on the slot before, for every record and tail, refused ones too.
   pub begins-alike : (r : S2Xv2SatelliteDeliverySystem) (tail : List ℕ) → beginOf (interrupted s xs) r tail ≡ beginOf s r tail
-  begins-alike r tail = same-begin s (interrupted s xs) r tail (interrupted-form .0 ∙ sym form) (interrupted-form .1)
+  begins-alike r tail = same-begin s (interrupted s xs) r tail form (interrupted-form .0) (interrupted-form .1)
 
 -- RESTART. Once all stores of the new job are made, by whatever steps, the bytes are those on a slot never interrupted.
 pub restart : {s : List ℕ} {r : S2Xv2SatelliteDeliverySystem} {tail : List ℕ} → Ready s r tail → (xs : List Stopped) → AllTyped xs → (more other : List ℕ)

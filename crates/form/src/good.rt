@@ -2,7 +2,7 @@
 ghost use mathlib.Core.Path.{_≡_};
 ghost use Prim.Native.Nat.{_+_, _<_, _≤_};
 ghost use lib.ListN.{length};
-ghost use Rattle.form.specs.Form.{byteAt, goodSize, goodForm, formOf};
+ghost use Rattle.form.specs.Form.{byteAt, goodSize, formOf};
 ghost use Rattle.form.specs.Bytewise.{oursAt};
 use crate::envelope::EXTENSION;
 use crate::envelope::STUFFING_TAG;
@@ -95,17 +95,4 @@ pub fn form_of(s: &[u8]) -> Form
         return walk(s);
     }
     Form::Size
-}
-
-// Whether the slot is in good form.
-pub fn in_form(s: &[u8]) -> bool
-    ensures { λ r. ⌜ r ≡ goodForm (now (s .entry)) ⌝ }
-{
-    let form = form_of(s);
-    match form {
-        Form::Size => false,
-        Form::Broken { at: _ } => false,
-        Form::Empty => true,
-        Form::Ours { at: _ } => true,
-    }
 }

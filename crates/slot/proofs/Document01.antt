@@ -9,14 +9,14 @@ use Prim.Native.Nat.{ℕ}
 use lib.Dec.{eqb}
 use Rattle.wire.specs.Flags.{when}
 use Rattle.form.specs.Envelope.{stuffingTag}
-use Rattle.form.specs.Form.{byteAt, bodyAt}
+use Rattle.form.specs.Form.{byteAt, bodyAt, judged}
 use Rattle.form.specs.Document01.{form01}
 use Rattle.form.proofs.Document01.{good01}
-use Rattle.slot.specs.Read.{showsEmpty, showsBody, showsOurs, ReadsAs}
+use Rattle.slot.specs.Read.{showsEmpty, showsBody, showsForm, ReadsAs}
 use Rattle.slot.specs.Document01.{shown01}
 use Rattle.slot.proofs.Laws.{reads-good}
 
-by-first : (s : List ℕ) (b : Bool) → showsOurs s (cond b none (some 0)) ≡ when b showsEmpty (showsBody 0 (bodyAt s 0))
+by-first : (s : List ℕ) (b : Bool) → showsForm s (judged none (cond b none (some 0))) ≡ when b showsEmpty (showsBody 0 (bodyAt s 0))
 by-first s true = refl
 by-first s false = refl
 

@@ -12,20 +12,20 @@ use native.Mathlib.Omega.{arith}
 use lib.ListN.{length, set, drop}
 use Rattle.form.specs.Envelope.{tag, stuffingTag, envelope, stuffing, holding}
 use Rattle.form.specs.Walk.{Descriptor, walk, descriptors}
-use Rattle.form.specs.Form.{byteAt, goodSize, goodForm}
+use Rattle.form.specs.Form.{byteAt, goodSize, goodForm, judged}
 use Rattle.form.proofs.Stuffing.{stuffing-length, stuffing-tag, stuffing-size}
 use Rattle.form.proofs.GoodForm.{size-facts}
-use Rattle.form.proofs.Answers.{Good, good-form, form-good}
+use Rattle.form.proofs.Answers.{Good, good-form, form-good, tells-good}
 use Rattle.form.proofs.Walked.{the-one, none-met, met-body}
 use Rattle.form.proofs.Laws as L
-use Rattle.slot.specs.Read.{showsEmpty, showsBody, showsOurs, shown, ReadsAs}
+use Rattle.slot.specs.Read.{showsEmpty, showsBody, showsForm, shown, ReadsAs}
 use Rattle.slot.specs.Empty.{emptied}
 use Rattle.slot.proofs.Emptying.{left-empty}
 
 -- ---- by where the one of ours starts
-pub reads-good : {s : List ℕ} {m : Option ℕ} → Good s m → ReadsAs s (showsOurs s m)
+pub reads-good : {s : List ℕ} {m : Option ℕ} → Good s m → ReadsAs s (showsForm s (judged none m))
 unfolding shown
-reads-good {s} {m} g = let f = good-form g in record { form = f .0; reads = rw (f .0, f .1) }
+reads-good {s} {m} g = record { form = good-form g .0; reads = ap (showsForm s) (tells-good s m g) }
 
 -- THE SLOT READS AS THE ONE OF OURS: of a slot in good form, any descriptor of the walk with tag 0x7F is that one, and its body is what stands behind its third
 -- byte ..

@@ -2,16 +2,14 @@
 -- from the arrays that it was stored into (`slot-back`).
 -- Assumes nothing.
 use mathlib.Core.Path.{_≡_, refl, sym, ap, _∙_}
-use mathlib.Core.Bool.{Bool, true, false}
 use mathlib.Core.List.{List, [], _∷_}
 use Prim.Native.Nat.{ℕ, _+_, _-_, _≤_}
 use native.Mathlib.Omega.{arith}
-use mathlib.Core.Option.{Option, none, some}
+use mathlib.Core.Option.{some}
 use lib.ListN.{length, take, drop, length-take, length-drop}
 use Rattle.answers.proofs.Answers.{refused-number}
 use Rattle.answers.specs.declared.answer.Refusal.{Refusal}
 use Rattle.answers.specs.Answer.{numbers}
-use Rattle.wire.specs.Flags.{when}
 use Rattle.s2xv2.specs.Default.{defaultRecord}
 use Rattle.s2xv2.specs.Read.{readTold, readOf, tailOf}
 use Rattle.s2xv2.proofs.Reach.{accepted-tail}
@@ -19,29 +17,21 @@ use Rattle.s2xv2_plain.specs.Input.{meant}
 use Rattle.s2xv2_plain.specs.Output.{numbersOf, bytesOf}
 use Rattle.s2xv2_plain.proofs.Back.{back}
 use Rattle.s2xv2_reader.proofs.Shown.{shown-back}
-use Rattle.form.specs.Form.{byteAt, bodyAt, goodForm, ours, judged, formOf}
+use Rattle.form.specs.Form.{byteAt, bodyAt, formOf}
 use Rattle.form.specs.declared.good.Form.{Form}
 use Rattle.form.specs.declared.good.Form.the-variants as F
-use Rattle.form.proofs.Answers.{good-form, isGood, good-told, told-good}
+use Rattle.form.proofs.Answers.{told-good}
 use Rattle.form.proofs.Laws.{ours-there}
-use Rattle.slot.specs.Read.{Shown, showsNone, showsEmpty, bodyOf, bodyIn, showsBody, showsOurs, placed, shown}
-use Rattle.slot.proofs.Laws.{reads-good}
+use Rattle.slot.specs.Read.{Shown, bodyOf, bodyIn, showsBody, showsForm, placed, shown}
 
 -- ---- by the form that is told
-pub shown-none : (s : List ℕ) (f : Form) → f ≡ formOf s → isGood f ≡ false → showsNone ≡ shown s
+pub shows : (s : List ℕ) (f : Form) → f ≡ formOf s → showsForm s f ≡ shown s
 unfolding shown
-shown-none s f e n = rw (sym (good-told s f e) ∙ n)
+shows s f e = ap (showsForm s) e
 
-pub shown-empty : (s : List ℕ) → F.Empty ≡ formOf s → showsEmpty ≡ shown s
-shown-empty s e = sym (reads-good (told-good s none (sym e)) .reads)
-
-pub no-body : (s : List ℕ) (f : Form) → f ≡ formOf s → isGood f ≡ false → [] ≡ bodyIn s
+pub its-body : (s : List ℕ) (f : Form) → f ≡ formOf s → bodyOf s f ≡ bodyIn s
 unfolding bodyIn
-no-body s f e n = rw (sym (good-told s f e) ∙ n)
-
-pub its-body : (s : List ℕ) (m : Option ℕ) → formOf s ≡ judged none m → bodyOf s m ≡ bodyIn s
-unfolding bodyIn
-its-body s m e = let g = good-form (told-good s m e) in rw (g .0, g .1)
+its-body s f e = ap (bodyOf s) e
 
 -- the tail is that of the body, also where there is none: no bytes are no body
 no-bytes : tailOf [] ≡ []
@@ -50,12 +40,13 @@ no-bytes = refl
 
 pub tail-in : (s : List ℕ) → tailOf (bodyIn s) ≡ shown s .tail
 unfolding shown showsBody bodyIn
-tail-in s = go (goodForm s) (ours s)
+tail-in s = go (formOf s)
   where
-    go : (g : Bool) (o : Option ℕ) → tailOf (when g (bodyOf s o) []) ≡ when g (showsOurs s o) showsNone .tail
-    go true none = no-bytes
-    go true (some a) = refl
-    go false o = no-bytes
+    go : (f : Form) → tailOf (bodyOf s f) ≡ showsForm s f .tail
+    go F.Size = no-bytes
+    go (F.Broken at) = no-bytes
+    go F.Empty = no-bytes
+    go (F.Ours at) = refl
 
 -- ---- the one of ours: its bytes, and its body
 module _ (s : List ℕ) (a : ℕ) (f : formOf s ≡ F.Ours a) where
@@ -71,7 +62,7 @@ module _ (s : List ℕ) (a : ℕ) (f : formOf s ≡ F.Ours a) where
     body-size = let n = ours-bytes in (rw e (simp (length-take, length-drop) (omega arith)), omega arith)
 
     shows-body : showsBody a b ≡ shown s
-    shows-body = ap (showsBody a) e ∙ sym (reads-good (told-good s (some a) f) .reads)
+    shows-body = ap (showsBody a) e ∙ shows s (F.Ours a) (sym f)
 
     pub tells-body : placed a (length b) (readTold b) ≡ shown s .reading .told
     unfolding showsBody
@@ -97,9 +88,10 @@ Back x = meant (numbersOf (x .reading .body)) (bytesOf (x .reading .body)) ≡ x
 
 pub slot-back : (s : List ℕ) → Back (shown s)
 unfolding shown showsBody defaultRecord
-slot-back s = go (goodForm s) (ours s)
+slot-back s = go (formOf s)
   where
-    go : (f : Bool) (o : Option ℕ) → Back (when f (showsOurs s o) showsNone)
-    go true none = back defaultRecord refl
-    go true (some a) = shown-back (bodyAt s a)
-    go false o = back defaultRecord refl
+    go : (f : Form) → Back (showsForm s f)
+    go F.Size = back defaultRecord refl
+    go (F.Broken at) = back defaultRecord refl
+    go F.Empty = back defaultRecord refl
+    go (F.Ours at) = shown-back (bodyAt s at)

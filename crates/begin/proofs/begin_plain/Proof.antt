@@ -1,78 +1,77 @@
--- `begin::begin_plain` meets its contract: what is staged and fits is begun, and any other goes the long way.
+-- `begin::begin_plain` meets its contract: the form is judged first, and a slot in good form goes to `sized_plain`.
 -- Assumes nothing.
-use mathlib.Core.Path.{_≡_, sym, ap, _∙_}
-use native.Mathlib.Omega.{arith}
+use mathlib.Core.Path.{sym, ap, _∙_}
+use mathlib.Core.List.{List}
+use Prim.Native.Nat.{ℕ}
 use denote.Ref.{now}
+use lib.ListN.{length}
 use Rattle.s2xv2_plain.specs.Input.{meant}
-use Rattle.answers.specs.Plain.{answerOut}
-use Rattle.answers.specs.declared.plain.PlainAnswer.{PlainAnswer}
+use Rattle.answers.specs.declared.answer.Refusal.the-variants as R
+use Rattle.form.specs.declared.good.Form.the-variants as F
 use Rattle.form.proofs.GoodForm.{form-size}
-use Rattle.begin.specs.Begin.{Begins, sizesOf}
-use Rattle.begin.proofs.Staging.{begun}
+use Rattle.begin.specs.Begin.{answered, beginOf}
+use Rattle.begin.proofs.Telling.{refuses, crossed, told-form, good-arm, told-record}
 use borrow.Author.Needs.{needs}
 use Rattle.begin.proofs.begin_plain.Statement.{statement}
 use Rattle.begin.proofs.begin_plain.Tie as tie
 
--- what is answered and left is that of a begin that is equal
-crossed : {x : PlainAnswer} {b b′ : Begins} → x ≡ answerOut (b .told) → b ≡ b′ → (x ≡ answerOut (b′ .told)) × ((b .job .staged ≡ b′ .job .staged) × (sizesOf (b .job) ≡ sizesOf (b′ .job)))
-crossed told e = (told ∙ ap (λ (t : Begins). answerOut (t .told)) e, (ap (λ (t : Begins). t .job .staged) e, ap (λ (t : Begins). sizesOf (t .job)) e))
+form-of-requires : tie.Need-form-of-requires
+form-of-requires c κs = search needs
 
-in-form-requires : tie.Need-in-form-requires
-in-form-requires c κs = search needs
+enum-told : tie.Need-enum-told
+enum-told c = search needs
 
-stage-plain-requires : tie.Need-stage-plain-requires
-stage-plain-requires c κs = search needs
+refused-plain-requires : tie.Need-refused-plain-requires
+refused-plain-requires c κs = search needs
 
-is-fit-requires : tie.Need-is-fit-requires
-is-fit-requires c κs = form-size _ (sym (c .before .before .before .before .before .in-form .ensures) ∙ c .before .before .before .before .if1 .taken) .1
+enum-told-2 : tie.Need-enum-told-2
+enum-told-2 c = search needs
 
-add-accepted : tie.Need-add-accepted
-add-accepted c = search needs
+refused-plain-requires-2 : tie.Need-refused-plain-requires-2
+refused-plain-requires-2 c κs = search needs
 
-cast-accepted : tie.Need-cast-accepted
-cast-accepted c =
-    let start = c .before .before .before .before .before .before .before in
-    let s = form-size _ (sym (start .before .in-form .ensures) ∙ start .if1 .taken) in
-    omega (arith, s .1)
-
-accepted-requires : tie.Need-accepted-requires
-accepted-requires c κs = search needs
+sized-plain-requires : tie.Need-sized-plain-requires
+sized-plain-requires c κs =
+    let way = c .before .before in
+    form-size _ (good-arm _ (way .before .form-of .result) (way .before .form-of .ensures) (way .match .keys3))
 
 returns : tie.Need-returns
+unfolding beginOf
 returns c =
-    let start = c .before .before .before .before .before .before .before .before in
-    let a = start .before .before .before .before .args in
-    let stage = c .before .before .before .before .before .stage-plain .ensures (c .before .before .before .before .if2 .taken) in
-    let fits = sym (c .before .before .before .is-fit .ensures) ∙ c .before .before .if3 .taken in
-    let form = sym (start .before .in-form .ensures) ∙ start .if1 .taken in
-    crossed (c .accepted .ensures) (begun (now (a .slot)) (meant (now (a .w)) (now (a .b))) (now (a .reserved-tail)) _ _ form stage fits)
-
-of-plain-requires : tie.Need-of-plain-requires
-of-plain-requires c κs = search needs
-
-begin-requires : tie.Need-begin-requires
-begin-requires c κs = search needs
-
-answer-out-requires : tie.Need-answer-out-requires
-answer-out-requires c κs = search needs
+    let e = c .refused-plain .ensures in
+    let way = c .before .before .before in
+    let told = told-form _ _ _ F.Size (sym (way .enum-told .given .1) ∙ way .before .before .form-of .ensures) in
+    crossed (refuses _ _ _ R.Slot _ told) (e .0) (e .1 .0) (e .1 .1)
 
 returns-2 : tie.Need-returns-2
+unfolding beginOf
 returns-2 c =
-    let start = c .before .before .before .before in
-    crossed (c .answer-out .ensures) (rw (start .before .of-plain .ensures) at (start .begin .ensures))
+    let e = c .refused-plain2 .ensures in
+    let way = c .before .before .before in
+    let told = told-form _ _ _ (F.Broken _) (sym (way .enum-told2 .given .1) ∙ way .before .before .form-of .ensures) in
+    crossed (refuses _ _ _ R.Slot _ told) (e .0) (e .1 .0) (e .1 .1)
+
+returns-3 : tie.Need-returns-3
+unfolding beginOf
+returns-3 c =
+    let way = c .before .before .before in
+    let a = way .before .before .before .before .args in
+    let r = meant (now (a .w)) (now (a .b)) in
+    let e = c .sized-plain .ensures in
+    let form = good-arm _ (way .before .form-of .result) (way .before .form-of .ensures) (way .match .keys3) in
+    let told = told-record (now (a .slot)) r (now (a .reserved-tail)) form in
+    crossed (ap (λ (t : List ℕ). answered t (length (now (a .slot))) r (now (a .reserved-tail))) told) (e .0) (e .1 .0) (e .1 .1)
 
 pub begin-plain-spec : {M : Type 1} → statement M
 begin-plain-spec =
     tie.close
     (tie.spec
-    in-form-requires
-    stage-plain-requires
-    is-fit-requires
-    add-accepted
-    cast-accepted
-    accepted-requires
+    form-of-requires
+    enum-told
+    refused-plain-requires
+    enum-told-2
+    refused-plain-requires-2
+    sized-plain-requires
     returns
-    of-plain-requires
-    begin-requires
-    answer-out-requires
-    returns-2)
+    returns-2
+    returns-3)

@@ -1,9 +1,8 @@
 -- `slot::read::body_in` meets its contract: the form says where the body is.
 -- Assumes nothing.
-use mathlib.Core.Path.{refl, sym, _∙_}
-use mathlib.Core.Option.{none, some}
+use mathlib.Core.Path.{sym, _∙_}
 use Rattle.form.specs.declared.good.Form.the-variants as F
-use Rattle.slot.proofs.Reading.{no-body, its-body}
+use Rattle.slot.proofs.Reading.{its-body}
 use borrow.Author.Needs.{needs}
 use Rattle.slot.proofs.read.body_in.Statement.{statement}
 use Rattle.slot.proofs.read.body_in.Tie as tie
@@ -54,18 +53,18 @@ body-at-requires : tie.Need-body-at-requires
 body-at-requires c κs = sym (c .before .before .before .form-of .ensures) ∙ c .before .form .given .1
 
 returns : tie.Need-returns
-returns c = no-body _ F.Size (sym (c .before .enum-told .given .1) ∙ c .before .before .before .form-of .ensures) refl
+returns c = its-body _ F.Size (sym (c .before .enum-told .given .1) ∙ c .before .before .before .form-of .ensures)
 
 returns-2 : tie.Need-returns-2
-returns-2 c = no-body _ (F.Broken _) (sym (c .before .enum-told2 .given .1) ∙ c .before .before .before .form-of .ensures) refl
+returns-2 c = its-body _ (F.Broken _) (sym (c .before .enum-told2 .given .1) ∙ c .before .before .before .form-of .ensures)
 
 returns-3 : tie.Need-returns-3
-returns-3 c = its-body _ none (sym (c .before .before .before .form-of .ensures) ∙ c .before .enum-told3 .given .1)
+returns-3 c = its-body _ F.Empty (sym (c .before .enum-told3 .given .1) ∙ c .before .before .before .form-of .ensures)
 
 returns-4 : tie.Need-returns-4
 returns-4 c =
     let way = c .before .before in
-    c .body-at .ensures ∙ its-body _ (some _) (sym (way .before .before .form-of .ensures) ∙ way .form .given .1)
+    c .body-at .ensures ∙ its-body _ (F.Ours _) (sym (way .form .given .1) ∙ way .before .before .form-of .ensures)
 
 pub body-in-spec : {M : Type 1} → statement M
 body-in-spec =

@@ -1,11 +1,11 @@
 -- `slot::read::read_into` meets its contract: the form says which of the cases it is.
 -- Assumes nothing.
-use mathlib.Core.Path.{refl, sym, ap, _∙_}
+use mathlib.Core.Path.{sym, ap, _∙_}
 use Rattle.s2xv2_plain.specs.Output.{numbersOf, bytesOf}
 use Rattle.form.specs.declared.good.Form.the-variants as F
 use Rattle.slot.specs.Answer.{slotTold}
 use Rattle.slot.specs.Read.{Shown}
-use Rattle.slot.proofs.Reading.{shown-none, shown-empty, body-size, tells-body, holds-body}
+use Rattle.slot.proofs.Reading.{shows, body-size, tells-body, holds-body}
 use borrow.Author.Needs.{needs}
 use Rattle.slot.proofs.read.read_into.Statement.{statement}
 use Rattle.slot.proofs.read.read_into.Tie as tie
@@ -45,7 +45,7 @@ read-body-requires c κs =
 returns : tie.Need-returns
 returns c =
     let way = c .before .before .before in
-    let d = shown-none _ F.Size (sym (way .enum-told .given .1) ∙ way .before .before .form-of .ensures) refl in
+    let d = shows _ F.Size (sym (way .enum-told .given .1) ∙ way .before .before .form-of .ensures) in
     let e = c .without .ensures in (
       ap slotTold (e .0) ∙ ap (λ (x : Shown). x .reading .told) d,
       ((e .1 .0 ∙ ap (λ (x : Shown). numbersOf (x .reading .body)) d), (e .1 .1 ∙ ap (λ (x : Shown). bytesOf (x .reading .body)) d)),
@@ -54,7 +54,7 @@ returns c =
 returns-2 : tie.Need-returns-2
 returns-2 c =
     let way = c .before .before .before in
-    let d = shown-none _ (F.Broken _) (sym (way .enum-told2 .given .1) ∙ way .before .before .form-of .ensures) refl in
+    let d = shows _ (F.Broken _) (sym (way .enum-told2 .given .1) ∙ way .before .before .form-of .ensures) in
     let e = c .without2 .ensures in (
       ap slotTold (e .0) ∙ ap (λ (x : Shown). x .reading .told) d,
       ((e .1 .0 ∙ ap (λ (x : Shown). numbersOf (x .reading .body)) d), (e .1 .1 ∙ ap (λ (x : Shown). bytesOf (x .reading .body)) d)),
@@ -63,7 +63,7 @@ returns-2 c =
 returns-3 : tie.Need-returns-3
 returns-3 c =
     let way = c .before .before .before in
-    let d = shown-empty _ (sym (way .enum-told3 .given .1) ∙ way .before .before .form-of .ensures) in
+    let d = shows _ F.Empty (sym (way .enum-told3 .given .1) ∙ way .before .before .form-of .ensures) in
     let e = c .without3 .ensures in (
       ap slotTold (e .0) ∙ ap (λ (x : Shown). x .reading .told) d,
       ((e .1 .0 ∙ ap (λ (x : Shown). numbersOf (x .reading .body)) d), (e .1 .1 ∙ ap (λ (x : Shown). bytesOf (x .reading .body)) d)),

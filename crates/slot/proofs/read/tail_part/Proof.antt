@@ -1,10 +1,10 @@
 -- `slot::read::tail_part` meets its contract: the form says where the body is, and the part of the body's tail is the slot's.
 -- Assumes nothing.
-use mathlib.Core.Path.{refl, sym, ap, _∙_}
+use mathlib.Core.Path.{sym, ap, _∙_}
 use Rattle.form.specs.declared.good.Form.the-variants as F
 use Rattle.slot.specs.Read.{Shown}
 use Rattle.slot.specs.Part.{toldPart, slotPart}
-use Rattle.slot.proofs.Reading.{shown-none, shown-empty, body-size, tells-body}
+use Rattle.slot.proofs.Reading.{shows, body-size, tells-body}
 use borrow.Author.Needs.{needs}
 use Rattle.slot.proofs.read.tail_part.Statement.{statement}
 use Rattle.slot.proofs.read.tail_part.Tie as tie
@@ -43,15 +43,15 @@ placed-part-requires c κs =
 
 returns : tie.Need-returns
 unfolding slotPart
-returns c = c .no-part .ensures ∙ ap (λ (x : Shown). toldPart (x .reading .told)) (shown-none _ F.Size (sym (c .before .enum-told .given .1) ∙ c .before .before .before .form-of .ensures) refl)
+returns c = c .no-part .ensures ∙ ap (λ (x : Shown). toldPart (x .reading .told)) (shows _ F.Size (sym (c .before .enum-told .given .1) ∙ c .before .before .before .form-of .ensures))
 
 returns-2 : tie.Need-returns-2
 unfolding slotPart
-returns-2 c = c .no-part2 .ensures ∙ ap (λ (x : Shown). toldPart (x .reading .told)) (shown-none _ (F.Broken _) (sym (c .before .enum-told2 .given .1) ∙ c .before .before .before .form-of .ensures) refl)
+returns-2 c = c .no-part2 .ensures ∙ ap (λ (x : Shown). toldPart (x .reading .told)) (shows _ (F.Broken _) (sym (c .before .enum-told2 .given .1) ∙ c .before .before .before .form-of .ensures))
 
 returns-3 : tie.Need-returns-3
 unfolding slotPart
-returns-3 c = c .no-part3 .ensures ∙ ap (λ (x : Shown). toldPart (x .reading .told)) (shown-empty _ (sym (c .before .enum-told3 .given .1) ∙ c .before .before .before .form-of .ensures))
+returns-3 c = c .no-part3 .ensures ∙ ap (λ (x : Shown). toldPart (x .reading .told)) (shows _ F.Empty (sym (c .before .enum-told3 .given .1) ∙ c .before .before .before .form-of .ensures))
 
 returns-4 : tie.Need-returns-4
 unfolding slotPart
