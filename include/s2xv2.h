@@ -22,7 +22,7 @@ extern "C" {
 /* The version of this header, and as one number. An archive is for a header of the same version: s2xv2_version() tells
    the version that was linked. */
 #define S2XV2_VERSION_MAJOR 0
-#define S2XV2_VERSION_MINOR 4
+#define S2XV2_VERSION_MINOR 5
 #define S2XV2_VERSION_PATCH 0
 #define S2XV2_VERSION (S2XV2_VERSION_MAJOR * 65536 + S2XV2_VERSION_MINOR * 256 + S2XV2_VERSION_PATCH)
 
@@ -46,9 +46,11 @@ enum {
     S2XV2_INCONSISTENT = 3, /* first: the first place of list A that holds */
     S2XV2_FIELD = 4,        /* first: the first place of list B that holds */
     S2XV2_ROOM = 5,         /* first: the bytes that are needed, second: those that are there */
-    S2XV2_SLOT = 6,         /* the slot is not in good form, or its size is not from 21 to 257 */
+    S2XV2_SLOT = 6,         /* the slot's size is not from 21 to 257 */
     S2XV2_NO_FIT = 7,       /* first: the descriptor's size, which is larger than the slot's or exactly one smaller */
-    S2XV2_OTHER_SIZE = 8    /* the slot's size is not the job's, or no begin and steps could give the job's numbers */
+    S2XV2_OTHER_SIZE = 8,   /* the slot's size is not the job's, or no begin and steps could give the job's numbers */
+    S2XV2_SLOT_FORM = 12    /* the slot's size is good and its form is not; first: where the first descriptor starts that
+                               breaks the form, counted from the slot's start */
 };
 
 /* The places that S2XV2_SHORT tells: the part that is missing. */
@@ -240,12 +242,14 @@ static inline S2xv2Answer s2xv2_serialize_into(const S2xv2Record *record, const 
 
 /* A slot of 21 to 257 bytes is in good form if descriptors, one behind the other, cover it exactly, each of them
    stuffing (0x42, of any length) or ours (0x7F, of a length of at least 1, with 0x24 as its third byte), and at most
-   one of them ours. It holds what that one holds, wherever it stands, and is empty if there is none. */
+   one of them ours. It holds what that one holds, wherever it stands, and is empty if there is none. The form is broken
+   by a descriptor that runs past the slot's end or of which one byte is left, by one that is neither stuffing nor ours,
+   by a 0x7F of length 0, and by the second 0x7F. */
 
 /* What a slot holds. Accepted tells where the tail starts, counted from the slot's start, and how many bytes it has,
-   to the end of our descriptor; an empty slot is accepted with 0 and 0. Refuses with 6 a slot that is not in good form,
-   and with 1 what s2xv2_parse refuses of the body, whose numbers count from the body's start. Every byte of the record
-   is stored: zeros where the slot is empty or refused. */
+   to the end of our descriptor; an empty slot is accepted with 0 and 0. Refuses with 6 a wrong size, then with 12 a
+   slot that is not in good form, then with 1 what s2xv2_parse refuses of the body, whose numbers count from the body's
+   start. Every byte of the record is stored: zeros where the slot is empty or refused. */
 static inline S2xv2Answer s2xv2_slot_read(const uint8_t *slot, size_t size, S2xv2Record *record) {
     return s2xv2_raw_slot_read(slot, size, s2xv2_raw_numbers(record), s2xv2_raw_bytes(record));
 }
@@ -258,8 +262,8 @@ S2xv2Part s2xv2_slot_reserved_tail(const uint8_t *slot, size_t size);
 S2xv2Answer s2xv2_slot_make_empty(uint8_t *slot, size_t size);
 
 /* A job that stores a record and its tail in a slot, as its first descriptor, whatever stood there. Stores nothing in
-   the slot. Accepted tells how many stores the job makes. Refuses with 6, 3, 2, 7 and 4. Every byte and number of the
-   job is stored: zeros where it is refused, and a step refuses such a job. */
+   the slot. Accepted tells how many stores the job makes. Refuses with 6, 12, 3, 2, 7 and 4. Every byte and number of
+   the job is stored: zeros where it is refused, and a step refuses such a job. */
 static inline S2xv2Answer s2xv2_begin(const uint8_t *slot, size_t size, const S2xv2Record *record, const uint8_t *tail,
                                       size_t tail_length, S2xv2Job *job) {
     return s2xv2_raw_begin(slot, size, s2xv2_raw_numbers_of(record), s2xv2_raw_bytes_of(record), tail, tail_length,

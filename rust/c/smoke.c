@@ -806,7 +806,9 @@ static void slots(void) {
     memset(slot, 7, sizeof slot);
     CHECK(told(s2xv2_slot_make_empty(NULL, 0), S2XV2_SLOT, 0, 0, 0));
     CHECK(told(s2xv2_slot_make_empty(slot, 20), S2XV2_SLOT, 0, 0, 0) && all(slot, 24, 7));
-    CHECK(told(s2xv2_slot_read(slot, 24, &record), S2XV2_SLOT, 0, 0, 0) && all(&record, sizeof record, 0));
+    CHECK(told(s2xv2_slot_read(slot, 24, &record), S2XV2_SLOT_FORM, 0, 0, 0) && all(&record, sizeof record, 0));
+    record = unread();
+    CHECK(told(s2xv2_slot_read(slot, 20, &record), S2XV2_SLOT, 0, 0, 0) && all(&record, sizeof record, 0));
     record = unread();
     CHECK(told(s2xv2_slot_read(NULL, 0, &record), S2XV2_SLOT, 0, 0, 0) && all(&record, sizeof record, 0));
     part = s2xv2_slot_reserved_tail(NULL, 0);
@@ -839,13 +841,18 @@ static void lay(uint8_t *slot, size_t size, const uint8_t *heads, size_t count) 
     }
 }
 
-/* Stuffing may stand on either side of the descriptor; a second one of ours, a foreign tag or a wrong end may not. */
+/* Stuffing may stand on either side of the descriptor; a second one of ours, a foreign tag, a length of 0 or a wrong end may not, and what is
+   told is where the descriptor starts that breaks the form. */
 static void stuffed_slots(void) {
     static const uint8_t short_body[] = {0x42, 16, 0x7F, 1};
     static const uint8_t front[] = {0x42, 10, 0x7F, 21, 0x42, 7};
     static const uint8_t alone[] = {0x42, 10, 0x42, 30};
-    static const uint8_t bad[][6] = {
-        {0x42, 10, 0x7F, 29, 0, 0}, {0x42, 10, 0x7F, 31, 0, 0}, {0x7F, 19, 0x7F, 21, 0, 0}, {0x42, 10, 0x48, 30, 0, 0}, {0x42, 2, 0x7F, 0, 0x42, 36},
+    static const struct {
+        uint8_t heads[6];
+        size_t offset;
+    } bad[] = {
+        {{0x42, 10, 0x7F, 29, 0, 0}, 43}, {{0x42, 10, 0x7F, 31, 0, 0}, 12},  {{0x7F, 19, 0x7F, 21, 0, 0}, 21},
+        {{0x42, 10, 0x48, 30, 0, 0}, 12}, {{0x42, 2, 0x7F, 0, 0x42, 36}, 4}, {{0x48, 42, 0, 0, 0, 0}, 0},
     };
     uint8_t slot[44];
     S2xv2Record record = unread();
@@ -870,10 +877,15 @@ static void stuffed_slots(void) {
     lay(slot, 44, alone, sizeof alone);
     CHECK(told(read_slot(slot, 44), S2XV2_ACCEPTED, 0, 0, 0));
     for (k = 0; k < sizeof bad / sizeof *bad; k++) {
-        lay(slot, 44, bad[k], bad[k][4] == 0 ? 4 : 6);
-        CHECK(told(read_slot(slot, 44), S2XV2_SLOT, 0, 0, 0) && told(begun(slot, 44, &record, NULL, 0), S2XV2_SLOT, 0, 0, 0));
+        const size_t offset = bad[k].offset;
+        lay(slot, 44, bad[k].heads, bad[k].heads[4] == 0 ? 4 : 6);
+        CHECK(told(read_slot(slot, 44), S2XV2_SLOT_FORM, offset, 0, 0));
+        CHECK(told(begun(slot, 44, &record, NULL, 0), S2XV2_SLOT_FORM, offset, 0, 0));
+        CHECK(told(read_slot(slot, 20), S2XV2_SLOT, 0, 0, 0) && told(begun(slot, 20, &record, NULL, 0), S2XV2_SLOT, 0, 0, 0));
         part = s2xv2_slot_reserved_tail(slot, 44);
         CHECK(part.place == 0 && part.length == 0);
+        CHECK(told(s2xv2_slot_make_empty(slot, 44), S2XV2_ACCEPTED, 0, 0, 0));
+        CHECK(told(begun(slot, 44, &record, NULL, 0), S2XV2_ACCEPTED, 46, 0, 0));
     }
 }
 
@@ -884,8 +896,12 @@ static void begins(void) {
     S2xv2Job job = no_job();
     memset(slot, 7, sizeof slot);
     CHECK(told(begun(NULL, 0, &record, NULL, 0), S2XV2_SLOT, 0, 0, 0));
-    CHECK(told(begun(slot, 22, &record, NULL, 0), S2XV2_SLOT, 0, 0, 0));
+    record.mode_is_reserved = 1;
+    CHECK(told(begun(slot, 20, &record, NULL, 0), S2XV2_SLOT, 0, 0, 0));
+    CHECK(told(begun(slot, 22, &record, NULL, 0), S2XV2_SLOT_FORM, 0, 0, 0));
     CHECK(told(s2xv2_slot_make_empty(slot, 22), S2XV2_ACCEPTED, 0, 0, 0));
+    CHECK(told(begun(slot, 22, &record, NULL, 0), S2XV2_INCONSISTENT, 1, 0, 0));
+    record.mode_is_reserved = 0;
     CHECK(told(s2xv2_begin(slot, 22, &record, NULL, 0, &refused), S2XV2_NO_FIT, 21, 0, 0) && is_no_job(&refused));
 
     CHECK(s2xv2_step(refused, slot, 22, 1).told.number == S2XV2_OTHER_SIZE);

@@ -25,7 +25,9 @@ refusalOf l = go (getD l 0 0) (getD l 1 0) (getD l 2 0) (getD l 3 0) (getD l 4 0
         (when (eqb n 2) (R.Long x)
         (when (eqb n 3) (R.Inconsistent x)
         (when (eqb n 4) (R.Field x)
-        (when (eqb n 5) (R.Room x y) (when (eqb n 6) R.Slot (R.NoFit x))))))
+        (when (eqb n 5) (R.Room x y)
+        (when (eqb n 6) R.Slot
+        (when (eqb n 7) (R.NoFit x) (R.SlotForm x)))))))
 
 pub refusal-back : (why : Refusal) → refusalOf (numbers why) ≡ why
 unfolding refusalOf
@@ -36,6 +38,7 @@ refusal-back (R.Field place) = refl
 refusal-back (R.Room need have) = refl
 refusal-back R.Slot = refl
 refusal-back (R.NoFit size) = refl
+refusal-back (R.SlotForm offset) = refl
 
 pub refused-number : (why : Refusal) → eqb (numberOf (numbers why)) 0 ≡ false
 refused-number (R.Short place need have least) = refl
@@ -45,6 +48,7 @@ refused-number (R.Field place) = refl
 refused-number (R.Room need have) = refl
 refused-number R.Slot = refl
 refused-number (R.NoFit size) = refl
+refused-number (R.SlotForm offset) = refl
 
 pub refused : (why : Refusal) → numberOf (numbers why) ≡ 0 → ⊥
 refused why e = let z : false ≡ true = sym (refused-number why) ∙ eq-eqb _ 0 e in let k : _≡_ {A = ℕ} 0 1 = cc in omega arith
@@ -70,6 +74,7 @@ all-told (R.Field place) = refl
 all-told (R.Room need have) = refl
 all-told R.Slot = refl
 all-told (R.NoFit size) = refl
+all-told (R.SlotForm offset) = refl
 
 pub few-told : (why : Refusal) → length (numbers why) ≤ 5
 few-told why = omega (arith, ap length (all-told why), length-take (length (numbers why)) (toldNow (numbers why) .numbers))

@@ -24,6 +24,7 @@ numbers (R.Field place) = 4 ∷ place ∷ []
 numbers (R.Room need have) = 5 ∷ need ∷ have ∷ []
 numbers R.Slot = 6 ∷ []
 numbers (R.NoFit size) = 7 ∷ size ∷ []
+numbers (R.SlotForm offset) = 12 ∷ offset ∷ []
 
 abbrev pub told : Answer → List ℕ
 told (A.Accepted result) = 0 ∷ result ∷ []

@@ -2,7 +2,7 @@
 ghost use mathlib.Core.Path.{_≡_};
 ghost use Rattle.answers.specs.Answer.{numbers, saturated, toldNow};
 
-// Why a call was refused: answers 1 to 7. A step has an answer of its own, which has number 8.
+// Why a call was refused: answers 1 to 7, and 12. A step has an answer of its own, which has number 8.
 pub enum Refusal {
     // The body ends inside a part: which one, where that part ends, how long the body is, and how long the whole has to be at the least.
     Short {
@@ -28,11 +28,15 @@ pub enum Refusal {
         need: usize,
         have: usize,
     },
-    // A slot of a wrong size or form.
+    // A slot of a wrong size.
     Slot,
     // A descriptor that is larger than the slot, or exactly one byte smaller: its size.
     NoFit {
         size: usize,
+    },
+    // A slot of a good size that is not in good form: where the first descriptor starts that breaks it, counted from the slot's start.
+    SlotForm {
+        offset: usize,
     },
 }
 
@@ -86,6 +90,10 @@ impl Refusal {
             Refusal::NoFit { size } => Told {
                 count: 2,
                 numbers: [7, size, 0, 0, 0],
+            },
+            Refusal::SlotForm { offset } => Told {
+                count: 2,
+                numbers: [12, offset, 0, 0, 0],
             },
         }
     }

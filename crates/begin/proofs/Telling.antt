@@ -1,7 +1,7 @@
 -- What begin tells, by the way through the code: each test of the definition is one that the code or the writer has made, and a refusal is never number 0.
--- An answer goes with its job (`refuses`, `accepts`), and both cross (`crossed`). Told are 6 by the form (`told-form`), 3 and 2 as the length call tells them (`told-length`,
--- `told-fit`, `length-accepted`), 7 (`fit-told`, `told-no-fit`, `told-fits`), and 4 as the writer tells it (`told-field`, `told-stores`). In good form, and
--- only there, the record is judged (`told-record`, `accepted-form`).
+-- An answer goes with its job (`refuses`, `accepts`), and both cross (`crossed`). Told are 6 and 12 by the form (`told-form`), 3 and 2 as the length call
+-- tells them (`told-length`, `told-fit`, `length-accepted`), 7 (`fit-told`, `told-no-fit`, `told-fits`), and 4 as the writer tells it (`told-field`,
+-- `told-stores`). In good form, and only there, the record is judged (`told-record`, `accepted-form`).
 -- Assumes nothing.
 use mathlib.Core.Path.{_≡_, refl, sym, ap, _∙_}
 use mathlib.Core.Bool.{Bool, true, false, not, false≢true}
@@ -61,7 +61,7 @@ pick-refused : (c : Bool) (why : Refusal) (a b l : List ℕ) → numbers why ≡
 pick-refused true why a b l e = e
 pick-refused false why a b l e = absurd (not-zero why l e)
 
--- ---- 6, by the form of the slot
+-- ---- 6 and 12, by the form of the slot
 pub told-form : (s : List ℕ) (r : S2Xv2SatelliteDeliverySystem) (tail : List ℕ) (f : Form) → f ≡ formOf s → formTold f (recordTold (length s) r tail) ≡ beginTold s r tail
 unfolding beginTold
 told-form s r tail f e = ap (λ (x : Form). formTold x (recordTold (length s) r tail)) e
@@ -85,7 +85,7 @@ in-form (F.Ours at) told e = refl
 
 out-of-form : (f : Form) (told : List ℕ) → numberOf (formTold f told) ≡ 0 → isGood f ≡ true
 out-of-form F.Size told e = absurd (refused R.Slot e)
-out-of-form (F.Broken at) told e = absurd (refused R.Slot e)
+out-of-form (F.Broken at) told e = absurd (refused (R.SlotForm at) e)
 out-of-form F.Empty told e = refl
 out-of-form (F.Ours at) told e = refl
 

@@ -91,14 +91,14 @@ recordTold n r tail =
     when (ltb 0 (inconsistency r)) (numbers (R.Inconsistent (inconsistency r)))
     (when (ltb 4096 (encodedLength r tail)) (numbers (R.Long (saturated (encodedLength r tail)))) (fitTold n r tail))
 
--- .. of a slot of any form: 6 before that
+-- .. of a slot of any form: 6 and 12 before that
 abbrev pub formTold : Form → List ℕ → List ℕ
 formTold F.Size otherwise = numbers R.Slot
-formTold (F.Broken at) otherwise = numbers R.Slot
+formTold (F.Broken at) otherwise = numbers (R.SlotForm at)
 formTold F.Empty otherwise = otherwise
 formTold (F.Ours at) otherwise = otherwise
 
--- 6, 3, 2, 7, 4, in this order, else accepted with the number of stores
+-- 6, 12, 3, 2, 7, 4, in this order, else accepted with the number of stores
 unfoldable pub beginTold : List ℕ → S2Xv2SatelliteDeliverySystem → List ℕ → List ℕ
 beginTold s r tail = formTold (formOf s) (recordTold (length s) r tail)
 

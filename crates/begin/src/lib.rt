@@ -127,7 +127,7 @@ pub fn begin(slot: &[u8], r: S2Xv2SatelliteDeliverySystem, reserved_tail: &[u8])
     let form = form_of(slot);
     match form {
         Form::Size => refused(Refusal::Slot),
-        Form::Broken { at: _ } => refused(Refusal::Slot),
+        Form::Broken { at } => refused(Refusal::SlotForm { offset: at }),
         Form::Empty | Form::Ours { at: _ } => begin_sized(slot.len(), r, reserved_tail),
     }
 }
@@ -205,7 +205,7 @@ pub fn begin_plain(
     let form = form_of(slot);
     match form {
         Form::Size => refused_plain(Refusal::Slot, staged, sizes),
-        Form::Broken { at: _ } => refused_plain(Refusal::Slot, staged, sizes),
+        Form::Broken { at } => refused_plain(Refusal::SlotForm { offset: at }, staged, sizes),
         Form::Empty | Form::Ours { at: _ } => sized_plain(
             slot.len(),
             w,

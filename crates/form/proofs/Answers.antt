@@ -19,18 +19,18 @@ use Rattle.form.specs.declared.good.Form.{Form}
 use Rattle.form.specs.declared.good.Form.the-variants as F
 use Rattle.form.proofs.Tests.{both}
 use Rattle.form.proofs.GoodForm.{size-facts, facts-size, not-size}
-use Rattle.form.proofs.Fitting.{ours-facts}
+use Rattle.form.proofs.Fitting.{ours-facts, breaking-is}
 use Rattle.form.proofs.Places.{or, along, rest-end, rest-cause}
 use Rattle.form.proofs.Outcomes.{Outcome, broken, covers, outcome}
 
 -- ---- answers that differ
-abbrev kindOf : Form → ℕ
+abbrev pub kindOf : Form → ℕ
 kindOf F.Size = 0
 kindOf (F.Broken at) = 1
 kindOf F.Empty = 2
 kindOf (F.Ours at) = 3
 
-abbrev placeOf : Form → ℕ
+abbrev pub placeOf : Form → ℕ
 placeOf F.Size = 0
 placeOf (F.Broken at) = at
 placeOf F.Empty = 0
@@ -90,7 +90,7 @@ plus met c = cond met (suc c) c
 -- a descriptor, and what is so behind it whether or not one of ours was met: e, the walk stops at the end; a, each is good; c, how many are ours
 by-turn : (stuffed o met : Bool) (rest : Bool → Option ℕ) (e a : Bool) (c at : ℕ) → (stuffed ≡ true → o ≡ true → ⊥)
     → ((m : Bool) → isNone (rest m) ≡ all (e ∷ a ∷ leb (plus m c) 1 ∷ []))
-    → isNone (cond (stuffed || (o && not met)) (rest (met || o)) (some at)) ≡ all (e ∷ ((stuffed || o) && a) ∷ leb (plus met (plus o c)) 1 ∷ [])
+    → isNone (cond (not (stuffed || (o && not met))) (some at) (rest (met || o))) ≡ all (e ∷ ((stuffed || o) && a) ∷ leb (plus met (plus o c)) 1 ∷ [])
 by-turn true true met rest e a c at n h = absurd (n refl refl)
 by-turn true false true rest e a c at n h = h true
 by-turn true false false rest e a c at n h = h false
@@ -98,7 +98,7 @@ by-turn false true false rest e a c at n h = h true
 by-turn false true true rest e a c at n h = rw (lt-leb (suc (suc c)) 1 (omega arith)) (sym (ap (λ (x : Bool). e && x) (and-false a) ∙ and-false e))
 by-turn false false met rest e a c at n h = sym (and-false e)
 
-by-end : (b met : Bool) (at : ℕ) → isNone (cond b none (some at)) ≡ all (b ∷ true ∷ leb (plus met 0) 1 ∷ [])
+by-end : (b met : Bool) (at : ℕ) → isNone (cond (not b) (some at) none) ≡ all (b ∷ true ∷ leb (plus met 0) 1 ∷ [])
 by-end true true at = refl
 by-end true false at = refl
 by-end false met at = refl
@@ -110,7 +110,8 @@ good-from : (met : Bool) (n : ℕ) (w : Walk) → isNone (breaksFrom met n w)
     ≡ all (eqb (stop w) n ∷ all (map (λ d. isStuffing d || isOurs d) (descriptors w)) ∷ leb (plus met (count (map isOurs (descriptors w)))) 1 ∷ [])
 unfolding breaksFrom descriptors stop
 good-from met n (whole d w) =
-    by-turn (isStuffing d) (isOurs d) met (λ m. breaksFrom m n w) (eqb (stop w) n) (all (map (λ x. isStuffing x || isOurs x) (descriptors w)))
+    ap (λ (b : Bool). isNone (cond b (some (d .offset)) (breaksFrom (met || isOurs d) n w))) (breaking-is met d)
+    ∙ by-turn (isStuffing d) (isOurs d) met (λ m. breaksFrom m n w) (eqb (stop w) n) (all (map (λ x. isStuffing x || isOurs x) (descriptors w)))
     (count (map isOurs (descriptors w))) (d .offset) (one-kind d) (λ m. good-from m n w)
 good-from met n (stops at) = by-end (eqb at n) met at
 

@@ -45,8 +45,9 @@ inForm =
     ∷ same (formOf (stuffing 18 ++ (0x7F ∷ 1 ∷ 0x24 ∷ []))) (F.Ours 18)
     ∷ []
 
--- Of no size: no bytes, a byte less, a byte more. One byte left; one that runs past the end, at the start and behind another; a foreign tag, at the start and in the middle;
--- another third byte; length 0, with the third byte of ours behind it; a second one of ours, and a second 0x7F that is none.
+-- Of no size: no bytes, a byte less, a byte more. One byte left; one that runs past the end, at the start and behind another; a foreign tag, at the start
+-- and in the middle; another third byte; length 0, with the third byte of ours behind it; a second one of ours, a second 0x7F that is none, and one that
+-- runs past the end; a foreign tag that does; length 0 as the last two bytes; the largest offset.
 abbrev pub outOfForm : List Bool
 outOfForm =
     same (formOf []) F.Size
@@ -61,6 +62,10 @@ outOfForm =
     ∷ same (formOf (0x42 ∷ 0 ∷ 0x7F ∷ 0 ∷ 0x24 ∷ stuffing 16)) (F.Broken 2)
     ∷ same (formOf (0x7F ∷ 1 ∷ 0x24 ∷ 0x7F ∷ 1 ∷ 0x24 ∷ stuffing 15)) (F.Broken 3)
     ∷ same (formOf (0x7F ∷ 1 ∷ 0x24 ∷ 0x7F ∷ 1 ∷ 0x25 ∷ stuffing 15)) (F.Broken 3)
+    ∷ same (formOf (0x7F ∷ 1 ∷ 0x24 ∷ 0x7F ∷ 17 ∷ 0x24 ∷ zeros 15)) (F.Broken 3)
+    ∷ same (formOf (0x43 ∷ 20 ∷ zeros 19)) (F.Broken 0)
+    ∷ same (formOf (stuffing 19 ++ (0x7F ∷ 0 ∷ []))) (F.Broken 19)
+    ∷ same (formOf (stuffing 256 ++ (0x42 ∷ []))) (F.Broken 256)
     ∷ []
 
 -- Every one is as it is due.

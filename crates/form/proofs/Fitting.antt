@@ -1,17 +1,18 @@
--- One descriptor: whether it is one of ours, and whether it fits, by the facts of it and by the bytes of the slot that it stands in.
+-- One descriptor: whether it is one of ours, and whether it breaks the form, by the facts of it and by the bytes of the slot that it stands in. It
+-- does not exactly if it is stuffing or the first of ours (`breaking-is`).
 -- Assumes nothing.
 use mathlib.Core.Path.{_≡_, refl, sym, ap, _∙_}
 use mathlib.Core.List.{List, [], _∷_}
-use mathlib.Core.Bool.{Bool, true, false, and-false}
+use mathlib.Core.Bool.{Bool, true, false, not, _&&_, _||_, and-false}
 use Prim.Native.Nat.{ℕ, zero, suc, _+_, _-_, _≤_}
 use native.Mathlib.Omega.{arith}
-use borrow.Author.Tests.{eq-eqb, ne-eqb}
+use borrow.Author.Tests.{eq-eqb, ne-eqb, eqb-true, le-leb}
 use lib.ListN.{length, getD, take, drop, length-drop}
 use lib.Seq.{getD-drop, length-take-le}
 use lib.Dec.{leb, eqb}
 use Rattle.form.specs.Envelope.{tag, extension, stuffingTag}
 use Rattle.form.specs.Walk.{Descriptor}
-use Rattle.form.specs.Form.{byteAt, isOurs, fits}
+use Rattle.form.specs.Form.{byteAt, all, isStuffing, isOurs, isTagged, breaking}
 use Rattle.form.specs.Bytewise.{behind, oursTests, oursAt}
 use Rattle.form.proofs.Tests.{all-each, each-all, fails, from-tests, to-tests}
 use Rattle.form.proofs.Walking.{descriptorAt}
@@ -34,6 +35,29 @@ module _ (d : Descriptor) where
 
   not-ours : (Ours d → ⊥) → isOurs d ≡ false
   not-ours h = sym (fails (isOurs d) (λ e. h (ours-facts e)))
+
+-- ---- none of the causes: it is stuffing, or the first of ours
+one-at-least : (n : ℕ) → leb 1 n ≡ not (eqb n 0)
+one-at-least zero = refl
+one-at-least (suc n) = rw (le-leb 1 (suc n) (omega arith), ne-eqb (suc n) 0 (λ e. omega arith))
+
+by-tests : (stuffed tagged third hollow met : Bool) → (stuffed ≡ true → tagged ≡ true → ⊥)
+    → (not (stuffed || tagged) || (tagged && not third)) || ((tagged && hollow) || (tagged && met)) ≡ not (stuffed || (all (tagged ∷ not hollow ∷ third ∷ []) && not met))
+by-tests true true third hollow met h = absurd (h refl refl)
+by-tests true false third hollow met h = refl
+by-tests false false third hollow met h = refl
+by-tests false true false true met h = refl
+by-tests false true false false met h = refl
+by-tests false true true true met h = refl
+by-tests false true true false true h = refl
+by-tests false true true false false h = refl
+
+pub breaking-is : (met : Bool) (d : Descriptor) → breaking met d ≡ not (isStuffing d || (isOurs d && not met))
+unfolding isOurs
+breaking-is met d =
+    rw (one-at-least (length (d .content)))
+    (by-tests (isStuffing d) (isTagged d) (eqb (byteAt (d .content) 0) extension) (eqb (length (d .content)) 0) met
+    (λ a b. let x = eqb-true (d .tag) stuffingTag a in let y = eqb-true (d .tag) tag b in omega arith))
 
 -- ---- by the bytes at a place
 abbrev OursThere : List ℕ → ℕ → Type 0
@@ -73,15 +97,17 @@ module _ (s : List ℕ) (at : ℕ) (whole : behind s at ≤ length s) where
       let l : 1 ≤ byteAt s (at + 1) = rw content-length at (f .1 .0) in
       h (f .0, (l, sym (content-first l) ∙ f .1 .1)))
 
-  -- stuffing fits; ours does if it is the first; and nothing else does
-  pub fits-stuffing : (met : Bool) → byteAt s at ≡ stuffingTag → fits met (descriptorAt s at) ≡ true
-  fits-stuffing met t = rw (eq-eqb _ _ t)
+  -- stuffing does not break the form, nor does the first of ours; all else does
+  pub fits-stuffing : (met : Bool) → byteAt s at ≡ stuffingTag → breaking met (descriptorAt s at) ≡ false
+  fits-stuffing met t = breaking-is met (descriptorAt s at) ∙ rw (eq-eqb _ _ t)
 
-  pub fits-ours : byteAt s at ≡ tag → 1 ≤ byteAt s (at + 1) → byteAt s (at + 2) ≡ extension → fits false (descriptorAt s at) ≡ true
-  fits-ours t l x = let z : byteAt s at ≡ stuffingTag → ⊥ = omega arith in rw (ne-eqb _ _ z, here-ours t l x)
+  pub fits-ours : byteAt s at ≡ tag → 1 ≤ byteAt s (at + 1) → byteAt s (at + 2) ≡ extension → breaking false (descriptorAt s at) ≡ false
+  fits-ours t l x = let z : byteAt s at ≡ stuffingTag → ⊥ = omega arith in breaking-is false (descriptorAt s at) ∙ rw (ne-eqb _ _ z, here-ours t l x)
 
-  pub fits-not : (met : Bool) → (byteAt s at ≡ stuffingTag → ⊥) → isOurs (descriptorAt s at) ≡ false → fits met (descriptorAt s at) ≡ false
-  fits-not met z h = rw (ne-eqb _ _ z, h)
+  pub breaks-other : (met : Bool) → (byteAt s at ≡ stuffingTag → ⊥) → isOurs (descriptorAt s at) ≡ false → breaking met (descriptorAt s at) ≡ true
+  breaks-other met z h = breaking-is met (descriptorAt s at) ∙ rw (ne-eqb _ _ z, h)
 
-  pub fits-second : byteAt s at ≡ tag → fits true (descriptorAt s at) ≡ false
-  fits-second t = let z : byteAt s at ≡ stuffingTag → ⊥ = omega arith in rw (ne-eqb _ _ z) (and-false (isOurs (descriptorAt s at)))
+  pub breaks-second : byteAt s at ≡ tag → breaking true (descriptorAt s at) ≡ true
+  breaks-second t =
+      let z : byteAt s at ≡ stuffingTag → ⊥ = omega arith in
+      breaking-is true (descriptorAt s at) ∙ rw (ne-eqb _ _ z) (ap not (and-false (isOurs (descriptorAt s at))))

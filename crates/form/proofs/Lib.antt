@@ -12,3 +12,4 @@ pub mod Walked
 pub mod Document01
 pub mod Equal
 pub mod Cases
+pub mod Offset

@@ -10,13 +10,13 @@ use borrow.Author.Tests.{eq-eqb, ne-eqb}
 use lib.ListN.{length}
 use Rattle.form.specs.Envelope.{tag, extension, stuffingTag}
 use Rattle.form.specs.Walk.{descriptors}
-use Rattle.form.specs.Form.{byteAt, fits, firstOurs, ours, breaksFrom, breaks, judged}
+use Rattle.form.specs.Form.{byteAt, breaking, firstOurs, ours, breaksFrom, breaks, judged}
 use Rattle.form.specs.Bytewise.{behind, Upto, Cause}
 use Rattle.form.specs.Bytewise as U
 use Rattle.form.specs.declared.good.Form.{Form}
 use Rattle.form.specs.declared.good.Form.the-variants as F
 use Rattle.form.proofs.Walking.{descriptorAt, walkAt, walk-start, at-end, at-stops, at-whole}
-use Rattle.form.proofs.Fitting.{here-ours, here-not, fits-stuffing, fits-ours, fits-not, fits-second}
+use Rattle.form.proofs.Fitting.{here-ours, here-not, fits-stuffing, fits-ours, breaks-other, breaks-second}
 
 -- the place of ours in hand, and the rest of the walk before it
 abbrev pub met : Option ℕ → Bool
@@ -47,7 +47,7 @@ module _ (s : List ℕ) (at : ℕ) where
   unfolding Rest breaksFrom
   rest-stop m l h = let z : at ≡ length s → ⊥ = omega arith in rw (at-stops s at h, ne-eqb at (length s) z)
 
-  rest-bad : (m : Option ℕ) → behind s at ≤ length s → fits (met m) (descriptorAt s at) ≡ false → Rest s at m ≡ F.Broken at
+  rest-bad : (m : Option ℕ) → behind s at ≤ length s → breaking (met m) (descriptorAt s at) ≡ true → Rest s at m ≡ F.Broken at
   unfolding Rest breaksFrom
   rest-bad m h e = rw (at-whole s at h, e)
 
@@ -55,10 +55,10 @@ module _ (s : List ℕ) (at : ℕ) where
   pub rest-cause : (m : Option ℕ) → Cause s at m → Rest s at m ≡ F.Broken at
   rest-cause m (U.one-left e) = rest-stop m (omega arith) (omega arith)
   rest-cause m (U.runs-past l h) = rest-stop m (omega arith) h
-  rest-cause m (U.foreign h a b) = rest-bad m h (fits-not s at h (met m) a (here-not s at h (λ f. b (f .0))))
-  rest-cause m (U.other-third h t l x) = rest-bad m h (fits-not s at h (met m) (λ z. omega arith) (here-not s at h (λ f. x (f .1 .1))))
-  rest-cause m (U.length-zero h t z) = rest-bad m h (fits-not s at h (met m) (λ y. omega arith) (here-not s at h (λ f. omega arith)))
-  rest-cause m (U.second {a = a} h t) = rest-bad (some a) h (fits-second s at h t)
+  rest-cause m (U.foreign h a b) = rest-bad m h (breaks-other s at h (met m) a (here-not s at h (λ f. b (f .0))))
+  rest-cause m (U.other-third h t l x) = rest-bad m h (breaks-other s at h (met m) (λ z. omega arith) (here-not s at h (λ f. x (f .1 .1))))
+  rest-cause m (U.length-zero h t z) = rest-bad m h (breaks-other s at h (met m) (λ y. omega arith) (here-not s at h (λ f. omega arith)))
+  rest-cause m (U.second {a = a} h t) = rest-bad (some a) h (breaks-second s at h t)
 
 -- the whole answer is that of the rest, wherever descriptors lead
 pub along : (s : List ℕ) (at : ℕ) (m : Option ℕ) → Upto s at m → judged (breaks s) (ours s) ≡ Rest s at m

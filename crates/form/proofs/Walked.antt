@@ -1,5 +1,6 @@
 -- What the walk meets. In good form a descriptor with our tag is the one of ours (`the-one`), since it is not stuffing, and of two the count would be 2;
--- where there is none, there is none of ours (`none-met`). Each descriptor is what stands at its offset (`met-there`), and so has its body (`met-body`).
+-- where there is none, there is none of ours (`none-met`). Each descriptor is what stands at its offset (`met-there`), and so has its body
+-- (`met-body`); what is handed on from place to place is so there (`met-where`).
 -- Assumes nothing.
 use mathlib.Core.Path.{_≡_, refl, sym, ap, subst, _∙_}
 use mathlib.Core.List.{List, [], _∷_, map, List·Memᴰ, List·Memᴰ·head, List·Memᴰ·tail, List·Memᴰ·not-nil}
@@ -81,23 +82,27 @@ pub record There (s : List ℕ) (d : Descriptor) : Type 0 where
   pub lies : behind s (d .offset) ≤ length s
   pub it-is : d ≡ descriptorAt s (d .offset)
 
-module _ (s : List ℕ) (d : Descriptor) where
-  by-turn : (at : ℕ) → (behind s at ≤ length s → List·Memᴰ d (descriptors (walkAt s (behind s at))) → There s d) → Dec (behind s at ≤ length s)
-      → List·Memᴰ d (descriptors (walkAt s at)) → There s d
+-- .. and what is so at the first byte, and behind a descriptor if it is so at it, is so there
+module _ (s : List ℕ) (d : Descriptor) (Q : ℕ → Type 0) (step : (at : ℕ) → behind s at ≤ length s → Q at → Q (behind s at)) where
+  by-turn : (at : ℕ) → Q at → (behind s at ≤ length s → Q (behind s at) → List·Memᴰ d (descriptors (walkAt s (behind s at))) → There s d × Q (d .offset))
+      → Dec (behind s at ≤ length s) → List·Memᴰ d (descriptors (walkAt s at)) → There s d × Q (d .offset)
   unfolding descriptors
-  by-turn at more (yes f) m = by (rw (at-whole s at f) at m)
+  by-turn at q more (yes f) m = by (rw (at-whole s at f) at m)
     where
-      by : List·Memᴰ d (descriptorAt s at ∷ descriptors (walkAt s (behind s at))) → There s d
-      by (List·Memᴰ·head e) = rw e (record { lies = f; it-is = refl })
-      by (List·Memᴰ·tail k) = more f k
-  by-turn at more (no f) m = let n : List·Memᴰ d [] = rw (at-stops s at (omega arith)) at m in absurd (List·Memᴰ·not-nil n)
+      by : List·Memᴰ d (descriptorAt s at ∷ descriptors (walkAt s (behind s at))) → There s d × Q (d .offset)
+      by (List·Memᴰ·head e) = rw e (record { lies = f; it-is = refl }, q)
+      by (List·Memᴰ·tail k) = more f (step at f q) k
+  by-turn at q more (no f) m = let n : List·Memᴰ d [] = rw (at-stops s at (omega arith)) at m in absurd (List·Memᴰ·not-nil n)
 
-  onward : (k at : ℕ) → length s ≤ at + k → List·Memᴰ d (descriptors (walkAt s at)) → There s d
-  onward zero at h = by-turn at (λ f m. absurd (omega arith)) (decLe (behind s at) (length s))
-  onward (suc k) at h = by-turn at (λ f. onward k (behind s at) (omega arith)) (decLe (behind s at) (length s))
+  onward : (k at : ℕ) → length s ≤ at + k → Q at → List·Memᴰ d (descriptors (walkAt s at)) → There s d × Q (d .offset)
+  onward zero at h q = by-turn at q (λ f p m. absurd (omega arith)) (decLe (behind s at) (length s))
+  onward (suc k) at h q = by-turn at q (λ f p. onward k (behind s at) (omega arith) p) (decLe (behind s at) (length s))
 
-  pub met-there : List·Memᴰ d (descriptors (walk s)) → There s d
-  met-there m = onward (length s) 0 (omega arith) (rw (walk-start s) at m)
+  pub met-where : Q 0 → List·Memᴰ d (descriptors (walk s)) → There s d × Q (d .offset)
+  met-where q m = onward (length s) 0 (omega arith) q (rw (walk-start s) at m)
+
+pub met-there : (s : List ℕ) (d : Descriptor) → List·Memᴰ d (descriptors (walk s)) → There s d
+met-there s d m = met-where s d (λ at. Unit {0}) (λ at f q. tt) tt m .0
 
 -- its body is what stands behind its third byte
 behind-third : (k : ℕ) (u : List ℕ) → drop 1 (take k u) ≡ take (k - 1) (drop 1 u)

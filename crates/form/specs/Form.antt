@@ -4,14 +4,16 @@
 -- `count`       how many of them hold
 -- `goodSize`    a slot may have so many bytes
 -- `isStuffing`  a descriptor is stuffing
+-- `isTagged`    a descriptor has our tag
 -- `isOurs`      a descriptor is one of ours
 -- `formTests`   the tests of good form
 -- `goodForm`    a slot is in good form
 -- `firstOurs`   the offset of the first of ours among descriptors
 -- `ours`        the offset of the one of ours in a slot
 -- `bodyAt`      the body of the descriptor at a place
--- `fits`        a descriptor is stuffing or the first of ours
--- `breaksFrom`  the offset of the first that is neither, or where the walk stops before the end
+-- `runsPast`, `foreign`, `lengthZero`, `second`  the four causes that a descriptor breaks the form
+-- `breaking`    one that lies whole has a cause
+-- `breaksFrom`  the offset of the first that has one, along the walk
 -- `breaks`      where a slot breaks the form
 -- `judged`      the form by where it breaks, and where the one of ours starts
 -- `formOf`      the form of a slot
@@ -47,8 +49,11 @@ goodSize n = all (leb 21 n ∷ leb n 257 ∷ [])
 abbrev pub isStuffing : Descriptor → Bool
 isStuffing d = eqb (d .tag) stuffingTag
 
+abbrev pub isTagged : Descriptor → Bool
+isTagged d = eqb (d .tag) tag
+
 unfoldable pub isOurs : Descriptor → Bool
-isOurs d = all (eqb (d .tag) tag ∷ leb 1 (length (d .content)) ∷ eqb (byteAt (d .content) 0) extension ∷ [])
+isOurs d = all (isTagged d ∷ leb 1 (length (d .content)) ∷ eqb (byteAt (d .content) 0) extension ∷ [])
 
 -- GOOD FORM: descriptors that cover the n bytes exactly, each of them stuffing or ours, at most one of them ours
 abbrev pub formTests : List ℕ → List Bool
@@ -73,14 +78,29 @@ ours s = firstOurs (descriptors (walk s))
 abbrev pub bodyAt : List ℕ → ℕ → List ℕ
 bodyAt s at = take (byteAt s (at + 1) - 1) (drop (at + envelopeSize) s)
 
--- WHERE THE FORM BREAKS: at the first descriptor that is neither stuffing nor the first of ours (`met`: one of ours stands in front of it),
--- else where the walk stops before the end n
-abbrev pub fits : Bool → Descriptor → Bool
-fits met d = isStuffing d || (isOurs d && not met)
+-- WHERE THE FORM BREAKS: at the first descriptor, in the walk's order, with one of four causes
+-- 1. it runs past the end n, or has only one byte left: there the walk stops
+abbrev pub runsPast : ℕ → ℕ → Bool
+runsPast n at = not (eqb at n)
+
+-- 2. its tag is neither 0x42 nor 0x7F, or it is a 0x7F whose third byte is not 0x24
+abbrev pub foreign : Descriptor → Bool
+foreign d = not (isStuffing d || isTagged d) || (isTagged d && not (eqb (byteAt (d .content) 0) extension))
+
+-- 3. it is a 0x7F of length 0
+abbrev pub lengthZero : Descriptor → Bool
+lengthZero d = isTagged d && eqb (length (d .content)) 0
+
+-- 4. it is the second 0x7F (`met`: one of ours stands in front of it)
+abbrev pub second : Bool → Descriptor → Bool
+second met d = isTagged d && met
+
+abbrev pub breaking : Bool → Descriptor → Bool
+breaking met d = foreign d || (lengthZero d || second met d)
 
 unfoldable pub breaksFrom : Bool → ℕ → Walk → Option ℕ
-breaksFrom met n (whole d w) = cond (fits met d) (breaksFrom (met || isOurs d) n w) (some (d .offset))
-breaksFrom met n (stops at) = cond (eqb at n) none (some at)
+breaksFrom met n (whole d w) = cond (breaking met d) (some (d .offset)) (breaksFrom (met || isOurs d) n w)
+breaksFrom met n (stops at) = cond (runsPast n at) (some at) none
 
 unfoldable pub breaks : List ℕ → Option ℕ
 breaks s = breaksFrom false (length s) (walk s)

@@ -1,6 +1,8 @@
 // Slots by draws: descriptors of drawn sizes that cover a slot, ours among them or not, and then other bytes at none to
-// three drawn places. What each reads as, where its tail stands and what begin answers goes into a digest.
+// three drawn places. What each reads as, where its tail stands and what begin answers goes into a digest, and, where
+// the form is broken, what begin answers once the slot is made empty.
 ghost use Prim.Native.Nat.{_<_, _≤_};
+use crate::again;
 use crate::damage::damage;
 use crate::heads::lay_sized;
 use crate::print::word;
@@ -10,6 +12,7 @@ use crate::sample::fill_part;
 use crate::sample::next;
 use crate::sample::seed;
 use crate::seen;
+use answers::answer::Answer;
 use s2xv2::record::S2Xv2SatelliteDeliverySystem;
 
 // A size that a slot may have, but for one case in 32.
@@ -134,23 +137,41 @@ fn prepare(slot: &mut [u8], case: u32, x: u32) {
     damage(slot, 2 < case % 4, next(next(z)));
 }
 
+// Where a begin in a slot that was made empty is counted: 11, or nowhere if it is refused.
+fn again_cell(answer: Answer) -> usize {
+    match answer {
+        Answer::Accepted(_) => 11,
+        Answer::Refused(_) => 12,
+    }
+}
+
+// What begin answers once the slot is made empty, if it refuses the slot for its form.
+fn put_again(d: u32, answer: Answer, slot: &mut [u8], counts: &mut [u32; 12]) -> u32 {
+    if again::is_due(answer) {
+        let told = again::begun(slot);
+        count(counts, again_cell(told));
+        return seen::put_answer(d, told);
+    }
+    d
+}
+
 // What a slot reads as, where its tail stands, and what begin answers for the default record.
-fn put_slot(d: u32, slot: &[u8]) -> u32 {
+fn put_slot(d: u32, slot: &mut [u8], counts: &mut [u32; 12]) -> u32 {
     let read = seen::put_tail(seen::put_reading(d, slot), slot);
     let b = begin::begin(slot, S2Xv2SatelliteDeliverySystem::default(), &[]);
     let answer = b.answer;
-    seen::put_answer(read, answer)
+    put_again(seen::put_answer(read, answer), answer, slot, counts)
 }
 
 // A case with its slot.
-fn run_in(d: u32, slot: &mut [u8], case: u32, x: u32, counts: &mut [u32; 5]) -> u32 {
+fn run_in(d: u32, slot: &mut [u8], case: u32, x: u32, counts: &mut [u32; 12]) -> u32 {
     prepare(slot, case, x);
     count(counts, seen::reading_cell(slot));
-    put_slot(d, slot)
+    put_slot(d, slot, counts)
 }
 
 // A case.
-fn run(d: u32, case: u32, counts: &mut [u32; 5]) -> u32 {
+fn run(d: u32, case: u32, counts: &mut [u32; 12]) -> u32 {
     let mut room = [0u8; 258];
     let x = next(seed(case));
     let n = slot_size(draw(x));
@@ -161,7 +182,7 @@ fn run(d: u32, case: u32, counts: &mut [u32; 5]) -> u32 {
 }
 
 // All cases.
-fn run_all(counts: &mut [u32; 5]) -> u32 {
+fn run_all(counts: &mut [u32; 12]) -> u32 {
     let mut d: u32 = 0;
     let mut case = 0;
     while case < 131_072 {
@@ -171,14 +192,29 @@ fn run_all(counts: &mut [u32; 5]) -> u32 {
     d
 }
 
-// Prints the counts of slots that read as a record, as empty, that answer 6, and that answer 1, and the digest.
+// Prints the counts of slots that answer 12, by cause, with those last that have none; and of those in which begin is
+// accepted once they are made empty.
+fn broken(counts: &[u32; 12]) {
+    word(b"\nform ", counts[4]);
+    word(b" ", counts[5]);
+    word(b" ", counts[6]);
+    word(b" ", counts[7]);
+    word(b" ", counts[8]);
+    word(b" ", counts[9]);
+    word(b" ", counts[10]);
+    word(b"\nagain ", counts[11]);
+}
+
+// Prints the counts of slots that read as a record, as empty, that answer 6, that answer 1, and that answer 12, and the
+// digest.
 pub(crate) fn slots() {
-    let mut counts = [0u32; 5];
+    let mut counts = [0u32; 12];
     let d = run_all(&mut counts);
     word(b"slots 131072\n", counts[0]);
     word(b" ", counts[1]);
     word(b" ", counts[2]);
     word(b" ", counts[3]);
+    broken(&counts);
     word(b"\ndigest ", d);
     io::write_all(1, b"\n");
 }

@@ -1,14 +1,12 @@
-// The slots with a name: arrangements of stuffing and ours, and what breaks the form. Of each: what it reads as, and what
-// begin answers.
-ghost use Prim.Native.Nat.{_<_};
+// The slots with a name: arrangements of stuffing and ours, and what breaks the form. Of each: what it reads as, what
+// begin answers, and, where it is refused for its form, what begin answers once it is made empty.
+use crate::again;
+use crate::heads::byte_of;
 use crate::heads::lay;
+use crate::heads::size_of;
 use crate::print;
+use lines::put::put;
 use s2xv2::record::S2Xv2SatelliteDeliverySystem;
-
-// A byte of a list, 0 behind its end.
-fn byte_of(list: &[u8], i: usize) -> u8 {
-    if i < list.len() { list[i] } else { 0 }
-}
 
 // The length that stands behind a tag.
 fn length_behind(heads: &[u8], i: usize) -> u8 {
@@ -22,13 +20,6 @@ fn next_tag(heads: &[u8], i: usize) -> usize {
     } else {
         0
     }
-}
-
-// The size of a descriptor.
-fn size_of(length: u8) -> usize
-    ensures { λ r. ⌜ (0 < r) × (r < 258) ⌝ }
-{
-    (length as usize) + 2
 }
 
 // Lays descriptors one behind the other from byte 0: tags and lengths in turn, which come again from the first where
@@ -48,26 +39,38 @@ fn lay_all(slot: &mut [u8], heads: &[u8]) {
     }
 }
 
-// Prints what a slot reads as, and what begin answers for the default record.
-fn tell(slot: &mut [u8], heads: &[u8]) {
+// Lays a slot out, with another third byte at a place.
+fn lay_out(slot: &mut [u8], heads: &[u8], at: usize) {
     lay_all(slot, heads);
+    put(slot, at, 0x25);
+}
+
+// Lays a slot out, and prints what it reads as, and what begin answers for the default record.
+fn tell(slot: &mut [u8], heads: &[u8], at: usize) {
+    lay_out(slot, heads, at);
     print::reading(slot);
     io::write_all(1, b"; begin ");
     let b = begin::begin(slot, S2Xv2SatelliteDeliverySystem::default(), &[]);
     let answer = b.answer;
     print::answer(answer);
+    again::tell(answer, slot);
     io::write_all(1, b"\n");
 }
 
-// One slot: its name, its size, and the tags and lengths of its descriptors. What is not the head of a descriptor is 0.
-fn one(name: &[u8], n: usize, heads: &[u8]) {
+// One slot with another third byte at a place; behind the slot's end it is left out.
+fn other_third(name: &[u8], n: usize, heads: &[u8], at: usize) {
     let mut room = [0u8; 258];
     io::write_all(1, b"slot ");
     io::write_all(1, name);
     io::write_all(1, b": ");
     if n <= 258 {
-        tell(&mut room[0..n], heads);
+        tell(&mut room[0..n], heads, at);
     }
+}
+
+// One slot: its name, its size, and the tags and lengths of its descriptors. What is not the head of a descriptor is 0.
+fn one(name: &[u8], n: usize, heads: &[u8]) {
+    other_third(name, n, heads, n);
 }
 
 // Slots in good form.
@@ -120,12 +123,57 @@ fn foreign() {
     );
 }
 
-// The sizes at both ends, with descriptors that cover the slot.
+// The sizes at both ends, with descriptors that cover the slot, and wrong ones with what would break the form.
 fn sizes() {
     one(b"size 20", 20, &[0x42, 0, 0x42, 16]);
     one(b"size 21", 21, &[0x42, 0, 0x42, 17]);
     one(b"size 257", 257, &[0x42, 0, 0x7F, 253]);
     one(b"size 258", 258, &[0x42, 1, 0x7F, 253]);
+    one(b"size 20, broken", 20, &[0x48, 3]);
+    one(b"size 258, broken", 258, &[0x48, 3]);
+}
+
+// Causes at byte 0 and behind stuffing.
+fn behind_stuffing() {
+    one(b"first past the end", 44, &[0x42, 43]);
+    one(b"first tag foreign", 44, &[0x48, 42]);
+    one(b"stuffing, one byte left", 44, &[0x42, 41]);
+    one(b"stuffing, foreign tag", 44, &[0x42, 10, 0x48, 30]);
+    one(b"stuffing, length 0", 44, &[0x42, 10, 0x7F, 0, 0x42, 28]);
+    one(b"stuffing, two of ours", 44, &[0x42, 0, 0x7F, 19, 0x7F, 19]);
+}
+
+// Causes behind ours.
+fn behind_ours() {
+    one(b"ours, one byte left", 44, &[0x7F, 41]);
+    one(b"ours, stuffing past the end", 44, &[0x7F, 19, 0x42, 22]);
+    one(b"ours, foreign tag", 44, &[0x7F, 19, 0x48, 21]);
+    one(b"ours, length 0", 44, &[0x7F, 19, 0x7F, 0, 0x42, 19]);
+    one(b"ours, a second past the end", 44, &[0x7F, 19, 0x7F, 22]);
+}
+
+// Causes at the end, and two of them at once.
+fn at_the_end() {
+    one(b"foreign tag past the end", 44, &[0x42, 10, 0x48, 31]);
+    one(b"length 0 at the end", 44, &[0x42, 40, 0x7F, 0]);
+    one(
+        b"length 0 and 0x24 at the end",
+        44,
+        &[0x42, 39, 0x7F, 0, 0x24, 0],
+    );
+    one(b"one byte left of 257", 257, &[0x42, 254]);
+}
+
+// Another third byte than ours has.
+fn third_bytes() {
+    other_third(b"first with another third byte", 44, &[0x7F, 42], 2);
+    other_third(
+        b"stuffing, another third byte",
+        44,
+        &[0x42, 10, 0x7F, 30],
+        14,
+    );
+    other_third(b"ours, another third byte", 44, &[0x7F, 19, 0x7F, 21], 23);
 }
 
 // All of them.
@@ -134,4 +182,8 @@ pub(crate) fn slots() {
     uncovered();
     foreign();
     sizes();
+    behind_stuffing();
+    behind_ours();
+    at_the_end();
+    third_bytes();
 }

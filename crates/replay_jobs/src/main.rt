@@ -2,6 +2,8 @@
 // records and several starts a job that is stopped after every number of stores, made by one step or by two of a job
 // that is lent: what the slot then reads as and holds, and what a new job begun there leaves, goes into a digest; and
 // slots by draws. What is printed is what a plain model of docs/ANSWERS.md gives if all is right.
+mod again;
+mod cause;
 mod damage;
 mod drawn;
 mod forms;
@@ -66,7 +68,7 @@ fn one_stop(
     body: &[u8],
     tail: &[u8],
     made: usize,
-    counts: &mut [u32; 5],
+    counts: &mut [u32; 12],
 ) -> u32 {
     let after = stop::put_stop(d, start, slot, body, made);
     count(counts, cell_of(seen::reading_cell(slot)));
@@ -81,7 +83,7 @@ fn stops(
     slot: &mut [u8],
     body: &[u8],
     tail: &[u8],
-    counts: &mut [u32; 5],
+    counts: &mut [u32; 12],
 ) -> u32 {
     let mut d = begun;
     let mut made = 0;
@@ -100,7 +102,7 @@ fn run_in(
     tail: &[u8],
     start: &mut [u8],
     slot: &mut [u8],
-    counts: &mut [u32; 5],
+    counts: &mut [u32; 12],
 ) -> u32 {
     start::prepare(start, start_of(case / 237), case);
     count(counts, stop::begin_cell(start, body));
@@ -113,7 +115,7 @@ fn run_in(
 }
 
 // A case: its slot has `n` bytes.
-fn run(d: u32, case: u32, tail: &[u8], counts: &mut [u32; 5]) -> u32 {
+fn run(d: u32, case: u32, tail: &[u8], counts: &mut [u32; 12]) -> u32 {
     let kind = kind_of(case / 237);
     let n = (21 + case % 237) as usize;
     let b = count_of(kind, n);
@@ -136,7 +138,7 @@ fn run(d: u32, case: u32, tail: &[u8], counts: &mut [u32; 5]) -> u32 {
 }
 
 // All cases.
-fn run_all(tail: &[u8], counts: &mut [u32; 5]) -> u32 {
+fn run_all(tail: &[u8], counts: &mut [u32; 12]) -> u32 {
     let mut d: u32 = 0;
     let mut case = 0;
     while case < 3792 {
@@ -149,7 +151,7 @@ fn run_all(tail: &[u8], counts: &mut [u32; 5]) -> u32 {
 // Runs all cases, and prints the counts and the digest.
 fn jobs() {
     let mut tail = [0u8; 257];
-    let mut counts = [0u32; 5];
+    let mut counts = [0u32; 12];
     fill(&mut tail, 257, 1);
     let d = run_all(&tail, &mut counts);
     word(b"jobs 3792\n", counts[0]);

@@ -1,5 +1,6 @@
 // The begins with a name: each answer of begin, and their order. Where begin is refused, the job that it gives is
-// refused by a step, and the slot stays as it was.
+// refused by a step, and the slot stays as it was; where that is for its form, it is then made empty and begun again.
+use crate::again;
 use crate::print;
 use crate::sample::fill;
 use answers::option::OptionU8;
@@ -23,6 +24,8 @@ enum Slot {
     Extension,
     Length0,
     SecondTag,
+    Broken20,
+    Broken258,
 }
 
 // The kinds of record: one with no conditional part, one with every part that mode 5 has, and those that have a fault.
@@ -33,6 +36,7 @@ enum Kind {
     NoBlock,
     Wide,
     NoBonds,
+    BothLists,
 }
 
 // A slot's size; the tag, the length and the third byte of its first descriptor; and the tag of the one behind it.
@@ -50,6 +54,8 @@ fn row(s: Slot) -> Layout {
         Slot::Extension => Layout(60, 0x7F, 47, 0x17, 0x42),
         Slot::Length0 => Layout(60, 0x7F, 0, 0x24, 0x42),
         Slot::SecondTag => Layout(60, 0x7F, 47, 0x24, 0x48),
+        Slot::Broken20 => Layout(20, 0x48, 18, 0x24, 0x42),
+        Slot::Broken258 => Layout(258, 0x7F, 250, 0x24, 0x48),
     }
 }
 
@@ -136,6 +142,7 @@ fn record(k: Kind) -> S2Xv2SatelliteDeliverySystem {
         Kind::NoBlock => core(S2Xv2Mode::S2XSuperframe, SATELLITE),
         Kind::Wide => core(S2Xv2Mode::Reserved(9), WIDE),
         Kind::NoBonds => full(0),
+        Kind::BothLists => core(S2Xv2Mode::Reserved(1), WIDE),
     }
 }
 
@@ -158,6 +165,7 @@ fn tell(slot: &mut [u8], l: Layout, record: S2Xv2SatelliteDeliverySystem, count:
     print::answer(answer);
     print::step(job, slot);
     print::word(b"; slot ", put_bytes(0, slot));
+    again::tell(answer, slot);
     io::write_all(1, b"\n");
 }
 
@@ -205,7 +213,15 @@ fn wrong_records() {
 
 // What is refused for two reasons: the first in the order of begin is told.
 fn ordered() {
-    one(b"6 before 3", Slot::FirstTag, Kind::Reserved1, 2);
+    one(b"6 before 12, 20 bytes", Slot::Broken20, Kind::BothLists, 2);
+    one(
+        b"6 before 12, 258 bytes",
+        Slot::Broken258,
+        Kind::BothLists,
+        2,
+    );
+    one(b"12 before 3", Slot::FirstTag, Kind::Reserved1, 2);
+    one(b"12 before both lists", Slot::SecondTag, Kind::BothLists, 2);
     one(b"3 before 2", Slot::Held, Kind::Reserved1, 4079);
     one(b"2 before 7", Slot::Held, Kind::Wide, 4079);
     one(b"7 before 4", Slot::Empty22, Kind::Wide, 0);

@@ -38,6 +38,7 @@ fn refusal(why: Refusal) {
         Refusal::Field { place } => word(b"4 ", place as u32),
         Refusal::Slot => word(b"", 6),
         Refusal::NoFit { size: d } => size(b"7 ", d),
+        Refusal::SlotForm { offset } => size(b"12 ", offset),
         _ => word(b"", 99),
     }
 }

@@ -38,8 +38,8 @@ pub(crate) fn fill(bytes: &mut [u8], n: usize, case: u32) {
 }
 
 // Counts one answer.
-pub(crate) fn count(counts: &mut [u32; 5], cell: usize) {
-    if cell < 5 {
+pub(crate) fn count(counts: &mut [u32; 12], cell: usize) {
+    if cell < 12 {
         counts[cell] = std::num::wrapping_add_u32(counts[cell], 1);
     }
 }

@@ -1,4 +1,5 @@
 // What is seen of a slot, into a digest.
+use crate::cause::cause;
 use answers::answer::Answer;
 use answers::answer::Refusal;
 use lines::digest::put;
@@ -23,6 +24,7 @@ fn put_refusal(d: u32, why: Refusal) -> u32 {
         ),
         Refusal::Slot => put(d, 6),
         Refusal::NoFit { size } => put_size(put(d, 7), size),
+        Refusal::SlotForm { offset } => put_size(put(d, 12), offset),
         _ => put(d, 99),
     }
 }
@@ -52,15 +54,17 @@ pub(crate) fn put_tail(d: u32, slot: &[u8]) -> u32 {
     put_size(put_size(d, part.place), part.length)
 }
 
-// Why it is refused: 2 for its size or form, 3 for its body.
-fn refused_cell(why: Refusal) -> usize {
+// Why it is refused: 2 for its size, 4 to 10 for its form, by cause, 3 for its body.
+fn refused_cell(slot: &[u8], why: Refusal) -> usize {
     match why {
         Refusal::Slot => 2,
+        Refusal::SlotForm { offset } => 4 + cause(slot, offset) % 7,
         _ => 3,
     }
 }
 
-// As what a slot reads: 0 for a record, 1 for an empty one, 2 for a wrong size or form, 3 for a body that is refused.
+// As what a slot reads: 0 for a record, 1 for an empty one, 2 for a wrong size, 3 for a body that is refused, 4 to 10 for
+// a wrong form.
 pub(crate) fn reading_cell(slot: &[u8]) -> usize {
     let r = slot::read::read(slot);
     let answer = r.answer;
@@ -70,6 +74,6 @@ pub(crate) fn reading_cell(slot: &[u8]) -> usize {
             length: _,
         } => 0,
         SlotAnswer::Empty => 1,
-        SlotAnswer::Refused(why) => refused_cell(why),
+        SlotAnswer::Refused(why) => refused_cell(slot, why),
     }
 }

@@ -96,7 +96,14 @@ fn short(place: u8, need: usize, have: usize, least: usize) {
     put(b"\n");
 }
 
-// Says a refusal. Reading a body gives no other than the first two, and reading a slot the third beside them.
+// Says that a slot breaks the form, and where.
+fn form(offset: usize) {
+    put(b"s2xv2dump: the slot is not in good form: the descriptor at offset ");
+    number(offset);
+    put(b" breaks it\n");
+}
+
+// Says a refusal. Reading a body gives no other than the first two, and reading a slot the next two beside them.
 pub(crate) fn refusal(why: Refusal) {
     match why {
         Refusal::Short {
@@ -106,9 +113,8 @@ pub(crate) fn refusal(why: Refusal) {
             least,
         } => short(place, need, have, least),
         Refusal::Long { length: _ } => say(b"the body has more than 4096 bytes"),
-        Refusal::Slot => say(
-            b"the slot has a wrong size, which may be 21 to 257 bytes, or is not in good form",
-        ),
+        Refusal::Slot => say(b"the slot has a wrong size: a slot has 21 to 257 bytes"),
+        Refusal::SlotForm { offset } => form(offset),
         Refusal::Inconsistent { place: _ }
         | Refusal::Field { place: _ }
         | Refusal::Room { need: _, have: _ }

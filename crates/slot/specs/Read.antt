@@ -60,10 +60,10 @@ showsBody at body = record {
   tail = tailOf body;
 }
 
--- WHAT A SLOT READS AS: 6, else empty, else the reader's answer for the body of the one of ours
+-- WHAT A SLOT READS AS: 6, else 12 with the offset where the form breaks, else empty, else the reader's answer for the body of the one of ours
 abbrev pub showsForm : List ℕ → Form → Shown
 showsForm s F.Size = without (numbers R.Slot)
-showsForm s (F.Broken at) = without (numbers R.Slot)
+showsForm s (F.Broken at) = without (numbers (R.SlotForm at))
 showsForm s F.Empty = showsEmpty
 showsForm s (F.Ours at) = showsBody at (bodyAt s at)
 

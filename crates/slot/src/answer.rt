@@ -8,7 +8,7 @@ pub enum SlotAnswer {
     Accepted { place: usize, length: usize },
     // The slot is in good form and holds no descriptor of ours.
     Empty,
-    // The slot is not in good form, or the reader refuses its body.
+    // The slot has a wrong size or form, or the reader refuses its body.
     Refused(Refusal),
 }
 

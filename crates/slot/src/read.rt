@@ -79,13 +79,13 @@ pub fn read_into(slot: &[u8], w: &mut [u32; 10], b: &mut [u8; 36]) -> SlotAnswer
     let form = form_of(slot);
     match form {
         Form::Size => without(SlotAnswer::Refused(Refusal::Slot), w, b),
-        Form::Broken { at: _ } => without(SlotAnswer::Refused(Refusal::Slot), w, b),
+        Form::Broken { at } => without(SlotAnswer::Refused(Refusal::SlotForm { offset: at }), w, b),
         Form::Empty => without(SlotAnswer::Empty, w, b),
         Form::Ours { at } => read_body(body_at(slot, at), at, w, b),
     }
 }
 
-// What the slot holds: refused with answer 6 if it is not in good form, else empty, else the reader's answer for the body.
+// What the slot holds: refused with answer 6 for its size or 12 for its form, else empty, else the reader's answer for the body.
 pub fn read(slot: &[u8]) -> SlotRead
     ensures { λ r. ⌜ slotSeen r ≡ shown (now (slot .entry)) .reading ⌝ }
 {

@@ -13,7 +13,8 @@
 //!
 //! SET is `mixed`, `no-ids`, `no-tail`, `cut`, `mode-1`, `mode-5`, or `tail-` with 0, 31, 64, 1024 or 4078. SLOT is a size, with `=` behind it
 //! for descriptors that fill it; an ALLOWANCE may be `all`. An ARRANGEMENT of a slot of 257 bytes is `stuffing`, `ours`, `ours-stuffing`,
-//! `stuffing-ours`, `pieces` or `pieces-ours`. The side `empty` is the loop with no call in it.
+//! `stuffing-ours`, `pieces` or `pieces-ours`, or one that is refused for its form: `broken`, `broken-pieces`, `stuffing-broken` or
+//! `pieces-broken`. The side `empty` is the loop with no call in it.
 mod boundary;
 mod inputs;
 mod rows;

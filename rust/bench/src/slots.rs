@@ -4,7 +4,7 @@ use crate::boundary::{self, Job, Stepped};
 use crate::inputs::{self, Set};
 use crate::rows::{drive, own, raw, safe, zeros, Own};
 use core::hint::black_box;
-use s2xv2::{read_slot, RawRecord, S2Xv2SatelliteDeliverySystem as Safe, Slot};
+use s2xv2::{read_slot, RawRecord, Refusal, S2Xv2SatelliteDeliverySystem as Safe, Slot};
 
 /// Whole jobs are long: so many of the records have one.
 const JOBS: usize = 100;
@@ -19,6 +19,13 @@ const ARRANGEMENTS: [(&str, usize); 6] = [
     ("stuffing-ours", 2),
     ("pieces", 128),
     ("pieces-ours", 119),
+];
+/// Those that break the form by a foreign tag, and its offset.
+const BROKEN: [(&str, usize); 4] = [
+    ("broken", 0),
+    ("broken-pieces", 0),
+    ("stuffing-broken", 236),
+    ("pieces-broken", 254),
 ];
 
 fn empty_slot(size: usize) -> Vec<u8> {
@@ -72,6 +79,13 @@ fn ours(body: &[u8], size: usize) -> Vec<u8> {
     descriptor
 }
 
+/// A descriptor of a size with a foreign tag.
+fn foreign(size: usize) -> Vec<u8> {
+    let mut descriptor = empty_slot(size);
+    descriptor[0] = 0x48;
+    descriptor
+}
+
 /// A slot with a body in an arrangement: pieces of stuffing have 2 bytes, and the last of 128 has 3.
 fn arranged(what: &str, body: &[u8]) -> Option<Vec<u8>> {
     let (least, rest) = (body.len() + 3, COUNTED - body.len() - 3);
@@ -82,6 +96,10 @@ fn arranged(what: &str, body: &[u8]) -> Option<Vec<u8>> {
         "stuffing-ours" => [empty_slot(rest), ours(body, least)].concat(),
         "pieces" => [[0x42, 0].repeat(127), empty_slot(3)].concat(),
         "pieces-ours" => [[0x42, 0].repeat(rest / 2), ours(body, least)].concat(),
+        "broken" => foreign(COUNTED),
+        "broken-pieces" => [foreign(3), [0x42, 0].repeat(127)].concat(),
+        "stuffing-broken" => [empty_slot(rest), foreign(least)].concat(),
+        "pieces-broken" => [[0x42, 0].repeat(127), foreign(3)].concat(),
         _ => return None,
     })
 }
@@ -252,6 +270,24 @@ pub fn agree() -> bool {
             .all(|held| slots(held).iter().all(|slot| read_alike(slot, held)))
         && begun_alike()
         && ARRANGEMENTS.into_iter().all(|(what, count)| arranged_alike(what, count))
+        && BROKEN.into_iter().all(|(what, offset)| refused_alike(what, offset))
+}
+
+/// That all sides refuse the slots of an arrangement for their form, with this offset, in reading and in begin.
+fn refused_alike(what: &str, offset: usize) -> bool {
+    bodies(CORE).iter().all(|body| {
+        let mut slot = arranged(what, body).expect("an arrangement");
+        let (own, mut lent, mut job) = (own(body), zeros(), no_job());
+        let told = |answer: boundary::Answer| (answer.number, usize::from(answer.first)) == (12, offset);
+        let refusal = Some(Refusal::SlotForm { offset });
+        told(boundary::slot_read(&slot, &mut lent))
+            && told(boundary::begin(&slot, &own.record, own.tail, &mut job))
+            && slot.len() == COUNTED
+            && RawRecord::default().read_slot(&slot).err() == refusal
+            && read_slot(&slot).err() == refusal
+            && raw(body).record.begin(&Slot::new(&mut slot), own.tail).err() == refusal
+            && s2xv2::Job::begin(&Slot::new(&mut slot), &safe(body)).err() == refusal
+    })
 }
 
 /// That the slots of an arrangement have so many descriptors and read as they should, and that a job begins there.

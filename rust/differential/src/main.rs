@@ -63,6 +63,7 @@ fn main() -> ExitCode {
     let mut tally = Tally::default();
     let outcome = run(count, &mut tally);
     println!("answers by number: {}", tally.answers());
+    println!("slots in no good form, by cause: {}", tally.causes());
     match outcome {
         Ok(()) => {
             println!("raw records beside the typed ones: {} comparisons", tally.beside);

@@ -124,6 +124,7 @@ fn compare_slot(slot: &[u8], theirs: &[u8], tally: &mut Tally) -> Result<(), Str
     tally.same(&slot, &theirs, || "bytes of a slot".to_string())?;
     let ours = our_reading(slot);
     tally.count(&ours.told);
+    tally.count_form(&form(slot));
     tally.same(&ours, &model_reading(slot), || format!("reading of the slot {slot:?}"))?;
     let mut raw = RawRecord::default();
     let tail = raw.read_slot(slot);
@@ -191,13 +192,22 @@ fn compare_job(case: u32, d: &mut Draws, slot: &mut [u8], tally: &mut Tally) -> 
     Ok(())
 }
 
-/// Three jobs, one after the other, on one slot.
+/// A slot that breaks the form is made empty.
+fn compare_emptied(slot: &mut [u8], tally: &mut Tally) -> Result<(), String> {
+    let Form::Broken(..) = form(slot) else { return Ok(()) };
+    let emptied = Slot::new(slot).make_empty();
+    tally.same(&emptied, &Ok(()), || format!("emptying of {} bytes", slot.len()))?;
+    compare_slot(slot, &jobs::stuffing(slot.len()), tally)
+}
+
+/// Three jobs, one after the other, on one slot, which is made empty in between where it breaks the form.
 pub fn case(case: u32, tally: &mut Tally) -> Result<(), String> {
     let mut d = Draws(seed(case));
     let n = size(&mut d);
     let mut slot = start(&mut d, n);
     for k in 0..3 {
         compare_job(case.wrapping_mul(3).wrapping_add(k), &mut d, &mut slot, tally)?;
+        compare_emptied(&mut slot, tally)?;
     }
     Ok(())
 }

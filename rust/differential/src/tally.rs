@@ -1,5 +1,6 @@
 //! Comparisons, and how many there were.
 use crate::ours::Told;
+use oracle::form::{Cause, Form};
 use std::collections::BTreeMap;
 use std::fmt::Debug;
 
@@ -9,6 +10,7 @@ pub struct Tally {
     /// Those of the raw record with the typed one, which are not among the others.
     pub beside: u64,
     counts: BTreeMap<u32, u64>,
+    broken: BTreeMap<Cause, u64>,
 }
 
 impl Tally {
@@ -35,8 +37,23 @@ impl Tally {
         *self.counts.entry(told[0]).or_default() += 1;
     }
 
-    pub fn answers(&self) -> String {
-        let cells: Vec<String> = self.counts.iter().map(|(number, count)| format!("{number}: {count}")).collect();
-        cells.join(", ")
+    /// Counts a slot that is in no good form by its cause.
+    pub fn count_form(&mut self, form: &Form) {
+        if let Form::Broken(_, cause) = form {
+            *self.broken.entry(*cause).or_default() += 1;
+        }
     }
+
+    pub fn answers(&self) -> String {
+        shown(&self.counts)
+    }
+
+    pub fn causes(&self) -> String {
+        shown(&self.broken)
+    }
+}
+
+fn shown<T: Debug>(counts: &BTreeMap<T, u64>) -> String {
+    let cells: Vec<String> = counts.iter().map(|(what, count)| format!("{what:?}: {count}")).collect();
+    cells.join(", ")
 }

@@ -1,6 +1,7 @@
 //! The begins with a name of the program `replay_jobs`: each answer of begin, by the plain model of `jobs.rs`. Where
-//! begin is refused, the job that it gives is refused by a step, and the slot stays as it was.
-use crate::jobs::{begin, filled, step};
+//! begin is refused, the job that it gives is refused by a step, and the slot stays as it was; where that is for its
+//! form, it is then made empty and begun again.
+use crate::jobs::{again, begin, filled, step};
 use crate::stream::Stream;
 use crate::values::*;
 
@@ -60,7 +61,7 @@ const CORE: [(usize, u32); 8] = [
 /// A slot: its size; the tag, the length and the third byte of its first descriptor; and the tag of the one behind it.
 type Layout = (usize, [u8; 4]);
 
-/// Empty ones, ones that hold a record, and those that are in no good form, named by what is wrong with them.
+/// Empty ones, ones that hold a record, those that are in no good form, named by what is wrong with them, and such a one in wrong sizes.
 const EMPTY_20: Layout = (20, [0x42, 18, 0x24, 0x42]);
 const EMPTY_21: Layout = (21, [0x42, 19, 0x24, 0x42]);
 const EMPTY_22: Layout = (22, [0x42, 20, 0x24, 0x42]);
@@ -70,6 +71,8 @@ const FIRST_TAG: Layout = (60, [0x48, 47, 0x24, 0x42]);
 const EXTENSION: Layout = (60, [0x7F, 47, 0x17, 0x42]);
 const LENGTH_0: Layout = (60, [0x7F, 0, 0x24, 0x42]);
 const SECOND_TAG: Layout = (60, [0x7F, 47, 0x24, 0x48]);
+const BROKEN_20: Layout = (20, [0x48, 18, 0x24, 0x42]);
+const BROKEN_258: Layout = (258, [0x7F, 250, 0x24, 0x48]);
 
 /// Faults of a record in mode 9: a satellite_id of 25 bits, and the mode `Reserved(1)`.
 const WIDE: (usize, u32) = (SATELLITE, 0x010A_0B0C);
@@ -78,7 +81,7 @@ const MODE_1: (usize, u32) = (MODE, 1);
 /// A name, a slot, whether the record has all parts, fields that are set anew, and the tail's length.
 type Row = (&'static str, Layout, bool, &'static [(usize, u32)], usize);
 
-const ROWS: [Row; 20] = [
+const ROWS: [Row; 23] = [
     ("empty slot of 21", EMPTY_21, false, &[], 0),
     ("over a record", HELD_60, true, &[], 5),
     ("slot of 20", EMPTY_20, false, &[], 0),
@@ -95,7 +98,10 @@ const ROWS: [Row; 20] = [
     ("one byte smaller", EMPTY_22, false, &[], 0),
     ("wide satellite_id", HELD_60, false, &[WIDE], 2),
     ("bond count 0", HELD_60, true, &[(BONDS, 0)], 2),
-    ("6 before 3", FIRST_TAG, false, &[MODE_1], 2),
+    ("6 before 12, 20 bytes", BROKEN_20, false, &[MODE_1, WIDE], 2),
+    ("6 before 12, 258 bytes", BROKEN_258, false, &[MODE_1, WIDE], 2),
+    ("12 before 3", FIRST_TAG, false, &[MODE_1], 2),
+    ("12 before both lists", SECOND_TAG, false, &[MODE_1, WIDE], 2),
     ("3 before 2", HELD_60, false, &[MODE_1], 4079),
     ("2 before 7", HELD_60, false, &[WIDE], 4079),
     ("7 before 4", EMPTY_22, false, &[WIDE], 0),
@@ -122,16 +128,31 @@ fn record(full: bool, set: &[(usize, u32)]) -> Values {
     values
 }
 
-/// Of each: its name, what begin answers, what a step of its job answers, how many stores it makes and whether the job
-/// is done, and a digest of the slot after the step.
-pub fn rows() -> Vec<(&'static str, Vec<u32>, [u32; 3], u32)> {
+/// A begin that was run: what it answers; what a step of its job answers, how many stores it makes and whether the job
+/// is done; a digest of the slot after the step; and what begin answers in the emptied slot.
+pub struct Run {
+    pub name: &'static str,
+    pub told: Vec<u32>,
+    pub step: [u32; 3],
+    pub digest: u32,
+    pub again: Option<Vec<u32>>,
+}
+
+/// All of them.
+pub fn rows() -> Vec<Run> {
     let run = |(name, layout, full, set, tail): &Row| {
         let mut slot = laid(*layout);
         let (told, mut job) = begin(&slot, &record(*full, set), &filled(1, *tail));
         let [stores, done, answer] = step(&mut job, &mut slot, 1000);
         let mut s = Stream::default();
         s.put_bytes("byte of the slot", &slot);
-        (*name, told, [answer, stores, done], s.digest)
+        Run {
+            name,
+            again: again(&told, &slot),
+            told,
+            step: [answer, stores, done],
+            digest: s.digest,
+        }
     };
     ROWS.iter().map(run).collect()
 }

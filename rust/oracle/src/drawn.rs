@@ -1,7 +1,8 @@
 //! Slots by draws, for the program `replay_jobs`: descriptors of drawn sizes that cover a slot, ours among them or not, and then other bytes at
 //! none to three drawn places.
+use crate::form::{form, Form};
 use crate::generator::{next, seed};
-use crate::jobs::{begin, filled, reading};
+use crate::jobs::{again, begin, filled, reading};
 use crate::stream::Stream;
 use crate::values::COUNT;
 
@@ -104,20 +105,39 @@ fn slot_of(case: u32) -> Vec<u8> {
     slot
 }
 
-/// The counts of slots that read as a record, as empty, that answer 6, and that answer 1.
-pub type Counts = [u32; 4];
+/// The counts of slots that read as a record, as empty, that answer 6, and that answer 1; of those that answer 12 by cause, with a cell behind
+/// them for an offset at which there is none; and of those in which begin is accepted once they are made empty.
+#[derive(Default)]
+pub struct Counts {
+    pub shown: [u32; 4],
+    pub broken: [u32; 7],
+    pub again: u32,
+}
 
-/// What the slot of a case reads as, where its tail stands and how long it is, and what begin answers for the default record.
+impl Counts {
+    fn count(&mut self, form: &Form, shown: &[u32]) {
+        match (form, shown[0]) {
+            (Form::Broken(_, cause), _) => self.broken[*cause as usize] += 1,
+            (_, 0) => self.shown[0] += 1,
+            (Form::Empty, _) => self.shown[1] += 1,
+            (Form::WrongSize, _) => self.shown[2] += 1,
+            (Form::Ours(_), _) => self.shown[3] += 1,
+        }
+    }
+}
+
+/// What the slot of a case reads as, where its tail stands and how long it is, what begin answers for the default record, and, where the form
+/// is broken, what it answers once the slot is made empty.
 pub fn run(case: u32, s: &mut Stream, counts: &mut Counts) {
     let slot = slot_of(case);
     let shown = reading(&slot);
+    counts.count(&form(&slot), &shown);
     s.put_all("reading of the slot", &shown);
     s.put_all("tail of the slot", if shown[0] == 0 { &shown[1..] } else { &[0, 0] });
-    s.put_all("answer of begin", &begin(&slot, &[0; COUNT], &[]).0);
-    counts[match shown[0] {
-        0 => 0,
-        9 => 1,
-        6 => 2,
-        _ => 3,
-    }] += 1;
+    let told = begin(&slot, &[0; COUNT], &[]).0;
+    s.put_all("answer of begin", &told);
+    if let Some(told) = again(&told, &slot) {
+        s.put_all("answer of begin in the emptied slot", &told);
+        counts.again += u32::from(told[0] == 0);
+    }
 }

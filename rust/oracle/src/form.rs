@@ -6,21 +6,40 @@ use std::ops::Range;
 pub enum Form {
     /// A size that is not from 21 to 257.
     WrongSize,
-    /// The offset of the first descriptor that breaks the form.
-    Broken(usize),
+    /// The offset of the first descriptor that breaks the form, and why it does.
+    Broken(usize, Cause),
     /// Good form, and stuffing alone.
     Empty,
     /// Good form, and where our one descriptor starts and ends.
     Ours(Range<usize>),
 }
 
-/// Where the descriptor ends that starts at an offset; none if one byte of it is left, or if it runs past the slot's end.
-fn end_of(slot: &[u8], at: usize) -> Option<usize> {
-    let end = at + 2 + usize::from(*slot.get(at + 1)?);
-    (end <= slot.len()).then_some(end)
+/// Why a descriptor breaks the form: the first of these that holds.
+#[derive(Clone, Copy, Debug, PartialEq, Eq, PartialOrd, Ord)]
+pub enum Cause {
+    OneByteLeft,
+    PastTheEnd,
+    ForeignTag,
+    Length0,
+    ThirdByte,
+    Second,
 }
 
-/// Each descriptor is stuffing or ours, at most one is ours, and the last one ends where the slot ends. A 0x7F of length 0 has no third byte.
+/// The descriptor at an offset, if it is stuffing or the first of ours.
+fn descriptor(slot: &[u8], at: usize, first: bool) -> Result<&[u8], Cause> {
+    let length = *slot.get(at + 1).ok_or(Cause::OneByteLeft)?;
+    let found = slot.get(at..at + 2 + usize::from(length)).ok_or(Cause::PastTheEnd)?;
+    match found {
+        [0x42, ..] => Ok(found),
+        [0x7F, _] => Err(Cause::Length0),
+        [0x7F, _, 0x24, ..] if first => Ok(found),
+        [0x7F, _, 0x24, ..] => Err(Cause::Second),
+        [0x7F, ..] => Err(Cause::ThirdByte),
+        _ => Err(Cause::ForeignTag),
+    }
+}
+
+/// Each descriptor is stuffing or ours, at most one is ours, and the last one ends where the slot ends.
 pub fn form(slot: &[u8]) -> Form {
     if !(21..=257).contains(&slot.len()) {
         return Form::WrongSize;
@@ -28,11 +47,12 @@ pub fn form(slot: &[u8]) -> Form {
     let mut ours = None;
     let mut at = 0;
     while at < slot.len() {
-        let Some(end) = end_of(slot, at) else { return Form::Broken(at) };
-        match slot[at..end] {
-            [0x42, ..] => {}
-            [0x7F, _, 0x24, ..] if ours.is_none() => ours = Some(at..end),
-            _ => return Form::Broken(at),
+        let end = match descriptor(slot, at, ours.is_none()) {
+            Ok(found) => at + found.len(),
+            Err(cause) => return Form::Broken(at, cause),
+        };
+        if slot[at] == 0x7F {
+            ours = Some(at..end);
         }
         at = end;
     }

@@ -28,8 +28,10 @@ pub struct Job {
 /// The answer of a begin: 0 and the number of stores, or a refusal; and the job.
 pub fn begin(slot: &[u8], record: &Values, tail: &[u8]) -> (Vec<u32>, Job) {
     let none = Job { stores: vec![], made: 0 };
-    if let Form::WrongSize | Form::Broken(_) = form(slot) {
-        return (vec![6], none);
+    match form(slot) {
+        Form::WrongSize => return (vec![6], none),
+        Form::Broken(offset, _) => return (vec![12, offset as u32], none),
+        Form::Empty | Form::Ours(_) => {}
     }
     let measured = length(record, tail);
     let Answer::Accepted(size) = measured else {
@@ -55,6 +57,12 @@ pub fn begin(slot: &[u8], record: &Values, tail: &[u8]) -> (Vec<u32>, Job) {
     (vec![0, n as u32 + 2], Job { stores, made: 0 })
 }
 
+/// The answer of a begin in a slot that was refused for its form and then made empty, for a record that fills it; none for another answer.
+pub fn again(told: &[u32], slot: &[u8]) -> Option<Vec<u32>> {
+    let filling = |n: usize| begin(&stuffing(n), &[0; COUNT], &vec![0; n - 21]).0;
+    (told[0] == 12).then(|| filling(slot.len()))
+}
+
 /// How many stores were made, whether none are left, and the answer.
 pub fn step(job: &mut Job, slot: &mut [u8], allowance: usize) -> [u32; 3] {
     if job.stores.is_empty() {
@@ -71,7 +79,8 @@ pub fn step(job: &mut Job, slot: &mut [u8], allowance: usize) -> [u32; 3] {
 /// What a slot reads as: 0 with the tail's place, counted from the slot's start, and its length; 9 for an empty one; or a refusal.
 pub fn reading(slot: &[u8]) -> Vec<u32> {
     let ours = match form(slot) {
-        Form::WrongSize | Form::Broken(_) => return vec![6],
+        Form::WrongSize => return vec![6],
+        Form::Broken(offset, _) => return vec![12, offset as u32],
         Form::Empty => return vec![9],
         Form::Ours(ours) => ours,
     };

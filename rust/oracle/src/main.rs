@@ -44,11 +44,14 @@ fn record() {
 }
 
 fn record_jobs() {
-    for (name, told, step, digest) in begins::rows() {
-        println!("begin {name}: {}; step {}; slot {digest}", words(&told), words(&step));
+    let again = |told: Option<Vec<u32>>| told.map_or(String::new(), |told| format!("; again {}", words(&told)));
+    for row in begins::rows() {
+        let (told, step) = (words(&row.told), words(&row.step));
+        println!("begin {}: {told}; step {step}; slot {}{}", row.name, row.digest, again(row.again));
     }
-    for (name, shown, told) in forms::rows() {
-        println!("slot {name}: {}; begin {}", words(&shown), words(&told));
+    for row in forms::rows() {
+        let (shown, told) = (words(&row.shown), words(&row.told));
+        println!("slot {}: {shown}; begin {told}{}", row.name, again(row.again));
     }
     let mut counts = jobs::Counts::default();
     let mut s = Stream::default();
@@ -61,7 +64,8 @@ fn record_jobs() {
     for case in 0..drawn::SLOTS {
         drawn::run(case, &mut s, &mut counts);
     }
-    println!("slots {}\n{}\ndigest {}", drawn::SLOTS, words(&counts), s.digest);
+    println!("slots {}\n{}", drawn::SLOTS, words(&counts.shown));
+    println!("form {}\nagain {}\ndigest {}", words(&counts.broken), counts.again, s.digest);
 }
 
 /// The cases with a name to which the crate's answer is not the library's.

@@ -3,7 +3,7 @@
 //! [`Refusal::BadArchive`], and never taken for another, is a number that the library's contracts do not allow where it would be a place or
 //! a count: the number of an answer, what a refusal tells, more ids than there is room for, a tail beyond the bytes that were lent. A record
 //! that the caller made is refused here for one thing alone, as [`Refusal::TooManyIds`].
-use crate::{ffi, Polarization, Refusal, RollOff, S2Xv2Mode, S2Xv2SatelliteDeliverySystem, S2Xv2Superframe};
+use crate::{ffi, Polarization, Refusal, RollOff, S2Xv2Mode, S2Xv2SatelliteDeliverySystem, S2Xv2Superframe, Slot};
 use alloc::{vec, vec::Vec};
 
 /// How many ids there are. Refuses more than the count, which is one byte, can say.
@@ -167,115 +167,249 @@ pub(crate) fn there<T>(has: u8, value: T) -> Option<T> {
     flag(has).then_some(value)
 }
 
-/// What an answer tells, where it accepts.
-#[inline]
-pub(crate) fn accepted(answer: ffi::Answer) -> Result<(usize, usize), Refusal> {
-    match answer.number {
-        0 => Ok((answer.first.into(), answer.second.into())),
-        _ => Err(refusal(answer)),
+/// What each call refuses with, in the order of docs/ANSWERS.md: the numbers, a bit for each. As a constant parameter it leaves nothing to be
+/// judged but what the call gives.
+pub(crate) const PARSE: u16 = bits(&[2, 1]);
+pub(crate) const MEASURE: u16 = bits(&[3, 2]);
+pub(crate) const WRITE: u16 = bits(&[3, 2, 5, 4]);
+pub(crate) const READ: u16 = bits(&[6, 12, 1]);
+pub(crate) const EMPTY: u16 = bits(&[6]);
+pub(crate) const BEGIN: u16 = bits(&[6, 12, 3, 2, 7, 4]);
+
+const fn bits(numbers: &[u16]) -> u16 {
+    match numbers {
+        [] => 0,
+        [number, rest @ ..] => 1 << *number | bits(rest),
     }
 }
 
-/// Why an answer refuses. A number that the contracts do not allow is [`Refusal::BadArchive`], and never taken for another. So is a least
-/// total that is below the end of a part: an archive of an older version tells 0 there.
+/// What the answer of a call on a body or a record tells, where it accepts.
+#[inline]
+pub(crate) fn accepted<const CALL: u16>(answer: ffi::Answer) -> Result<(usize, usize), Refusal> {
+    accepted_on::<CALL>(0, answer)
+}
+
+/// The same of a call on a slot of a size.
+#[inline]
+pub(crate) fn accepted_on<const CALL: u16>(size: usize, answer: ffi::Answer) -> Result<(usize, usize), Refusal> {
+    match answer.number {
+        0 => Ok((answer.first.into(), answer.second.into())),
+        _ => Err(refusal::<CALL>(size, answer)),
+    }
+}
+
+/// Why a call was refused. What the contracts do not allow is [`Refusal::BadArchive`], and never taken for another: a number that the call does
+/// not give, a place that no list has, a least total below the end of a part, an offset outside the slot, anything but 0 behind what is told.
+/// So an archive of an older version is found out where it tells 0 for a least total, or 6 for a slot's form.
 #[cold]
-fn refusal(answer: ffi::Answer) -> Refusal {
-    let place = |last: u8| u8::try_from(answer.first).ok().filter(|place| (1..=last).contains(place));
-    let refusal = match answer.number {
-        1 if answer.fourth < answer.second => None,
-        1 => place(9).map(|place| Refusal::Short {
-            place,
-            need: answer.second.into(),
-            have: answer.third.into(),
-            least: answer.fourth.into(),
-        }),
-        2 => Some(Refusal::Long { length: answer.first }),
-        3 => place(9).map(|place| Refusal::Inconsistent { place }),
-        4 => place(22).map(|place| Refusal::Field { place }),
-        5 => Some(Refusal::Room {
-            need: answer.first.into(),
-            have: answer.second.into(),
-        }),
-        6 => Some(Refusal::Slot),
-        7 => Some(Refusal::NoFit { size: answer.first.into() }),
-        8 => Some(Refusal::OtherSize),
-        _ => None,
-    };
-    refusal.unwrap_or(Refusal::BadArchive)
+fn refusal<const CALL: u16>(size: usize, answer: ffi::Answer) -> Refusal {
+    let ffi::Answer {
+        number,
+        first,
+        second,
+        third,
+        fourth,
+    } = answer;
+    let gives = |number: u16| CALL >> number & 1 == 1;
+    let is_size = (Slot::MIN_SIZE..=Slot::MAX_SIZE).contains(&size);
+    let listed = |last: u16| (1..=last).contains(&first);
+    let tells_two = third | fourth == 0;
+    let tells_one = second == 0 && tells_two;
+    match number {
+        // A slot of a wrong size is refused with 6, and no other slot is.
+        6 if gives(6) && !is_size && first == 0 && tells_one => Refusal::Slot,
+        _ if gives(6) && !is_size => Refusal::BadArchive,
+        1 if gives(1) && listed(9) && second <= fourth => Refusal::Short {
+            place: first as u8,
+            need: second.into(),
+            have: third.into(),
+            least: fourth.into(),
+        },
+        2 if gives(2) && tells_one => Refusal::Long { length: first },
+        3 if gives(3) && listed(9) && tells_one => Refusal::Inconsistent { place: first as u8 },
+        4 if gives(4) && listed(22) && tells_one => Refusal::Field { place: first as u8 },
+        5 if gives(5) && tells_two => Refusal::Room {
+            need: first.into(),
+            have: second.into(),
+        },
+        7 if gives(7) && tells_one => Refusal::NoFit { size: first.into() },
+        12 if gives(12) && usize::from(first) < size && tells_one => Refusal::SlotForm { offset: first.into() },
+        _ => Refusal::BadArchive,
+    }
 }
 
 #[cfg(test)]
 mod tests {
     use super::*;
 
-    fn answer(number: u16, first: u16) -> ffi::Answer {
+    /// How an answer of a call is judged, with the size of the slot that is lent to it.
+    type Judge = fn(usize, ffi::Answer) -> Result<(usize, usize), Refusal>;
+
+    /// The calls, and the numbers that they refuse with; those on slots come last.
+    const CALLS: [(Judge, &[u16]); 6] = [
+        (accepted_on::<PARSE>, &[2, 1]),
+        (accepted_on::<MEASURE>, &[3, 2]),
+        (accepted_on::<WRITE>, &[3, 2, 5, 4]),
+        (accepted_on::<EMPTY>, &[6]),
+        (accepted_on::<READ>, &[6, 12, 1]),
+        (accepted_on::<BEGIN>, &[6, 12, 3, 2, 7, 4]),
+    ];
+
+    /// What an answer of each number may tell, of a slot of 20 bytes if it is 6, and else of 44.
+    const REFUSALS: [(u16, [u16; 4], Refusal); 8] = [
+        (
+            1,
+            [4, 19, 18, 27],
+            Refusal::Short {
+                place: 4,
+                need: 19,
+                have: 18,
+                least: 27,
+            },
+        ),
+        (2, [4097, 0, 0, 0], Refusal::Long { length: 4097 }),
+        (3, [9, 0, 0, 0], Refusal::Inconsistent { place: 9 }),
+        (4, [22, 0, 0, 0], Refusal::Field { place: 22 }),
+        (5, [18, 17, 0, 0], Refusal::Room { need: 18, have: 17 }),
+        (6, [0; 4], Refusal::Slot),
+        (7, [45, 0, 0, 0], Refusal::NoFit { size: 45 }),
+        (12, [43, 0, 0, 0], Refusal::SlotForm { offset: 43 }),
+    ];
+
+    fn size_for(number: u16) -> usize {
+        if number == 6 {
+            20
+        } else {
+            44
+        }
+    }
+
+    fn answer(number: u16, [first, second, third, fourth]: [u16; 4]) -> ffi::Answer {
         ffi::Answer {
             number,
             first,
-            second: 5,
-            third: 6,
-            fourth: 7,
+            second,
+            third,
+            fourth,
         }
+    }
+
+    /// Why a call on a slot of a size was refused, by an answer with these numbers.
+    fn told(judge: Judge, size: usize, number: u16, numbers: [u16; 4]) -> Refusal {
+        judge(size, answer(number, numbers)).unwrap_err()
     }
 
     #[test]
     fn each_number_has_its_refusal() {
-        assert_eq!(accepted(answer(0, 4)), Ok((4, 5)));
-        for (number, refusal) in [
-            (
-                1,
-                Refusal::Short {
-                    place: 4,
-                    need: 5,
-                    have: 6,
-                    least: 7,
-                },
-            ),
-            (2, Refusal::Long { length: 4 }),
-            (3, Refusal::Inconsistent { place: 4 }),
-            (4, Refusal::Field { place: 4 }),
-            (5, Refusal::Room { need: 4, have: 5 }),
-            (6, Refusal::Slot),
-            (7, Refusal::NoFit { size: 4 }),
-            (8, Refusal::OtherSize),
-        ] {
-            assert_eq!(accepted(answer(number, 4)), Err(refusal));
-            assert_eq!(u16::from(refusal.number()), number);
+        for (judge, given) in CALLS {
+            assert_eq!(judge(44, answer(0, [4, 5, 6, 7])), Ok((4, 5)));
+            for (number, numbers, refusal) in REFUSALS {
+                let expected = if given.contains(&number) { refusal } else { Refusal::BadArchive };
+                assert_eq!(told(judge, size_for(number), number, numbers), expected);
+                assert_eq!(u16::from(refusal.number()), number);
+            }
         }
     }
 
     #[test]
     fn numbers_that_no_contract_allows() {
-        for number in [9, 99, 100, 101, 256 + 1, u16::MAX] {
-            assert_eq!(accepted(answer(number, 4)), Err(Refusal::BadArchive));
+        for (judge, _) in CALLS {
+            for number in [8, 9, 10, 11, 13, 15, 16, 99, 100, 101, 256 + 1, 256 + 12, u16::MAX] {
+                for size in [20, 44] {
+                    assert_eq!(told(judge, size, number, [0; 4]), Refusal::BadArchive);
+                }
+            }
         }
-        for (number, first) in [(1, 0), (1, 10), (1, 256 + 1), (3, 0), (3, 10), (4, 0), (4, 23), (4, 256 + 4)] {
-            assert_eq!(accepted(answer(number, first)), Err(Refusal::BadArchive));
+    }
+
+    #[test]
+    fn places_that_no_list_has() {
+        for (judge, _) in CALLS {
+            for (number, places) in [(3, [0, 10, 256 + 1]), (4, [0, 23, 256 + 4])] {
+                for place in places {
+                    assert_eq!(told(judge, 44, number, [place, 0, 0, 0]), Refusal::BadArchive);
+                }
+            }
+            for place in [0, 10, 256 + 1] {
+                assert_eq!(told(judge, 44, 1, [place, 19, 18, 27]), Refusal::BadArchive);
+            }
+        }
+    }
+
+    #[test]
+    fn a_call_that_judges_no_form_tells_none() {
+        for (judge, _) in &CALLS[..4] {
+            for size in [0, 20, 21, 44, 257] {
+                for offset in [0, 1, 20] {
+                    assert_eq!(told(*judge, size, 12, [offset, 0, 0, 0]), Refusal::BadArchive);
+                }
+            }
+        }
+    }
+
+    #[test]
+    fn a_wrong_size_is_told_as_6_and_nothing_else_is() {
+        for (judge, _) in &CALLS[3..] {
+            for size in Slot::MIN_SIZE..=Slot::MAX_SIZE {
+                assert_eq!(told(*judge, size, 6, [0; 4]), Refusal::BadArchive);
+            }
+            for size in [0, 1, 20, 258, 259, 65_536 + 21, usize::MAX] {
+                assert_eq!(told(*judge, size, 6, [0; 4]), Refusal::Slot);
+                for (number, numbers, _) in REFUSALS.into_iter().filter(|(number, ..)| *number != 6) {
+                    assert_eq!(told(*judge, size, number, numbers), Refusal::BadArchive);
+                }
+            }
+        }
+    }
+
+    #[test]
+    fn an_offset_is_below_the_slots_size() {
+        for (judge, _) in &CALLS[4..] {
+            for size in Slot::MIN_SIZE..=Slot::MAX_SIZE {
+                for first in (0..300).chain([512, u16::MAX]) {
+                    let offset = usize::from(first);
+                    let in_slot = (offset < size).then_some(Refusal::SlotForm { offset });
+                    let told = told(*judge, size, 12, [first, 0, 0, 0]);
+                    assert_eq!(told, in_slot.unwrap_or(Refusal::BadArchive));
+                }
+            }
+        }
+    }
+
+    #[test]
+    fn behind_what_is_told_stands_0() {
+        for (judge, _) in CALLS {
+            for (number, numbers, _) in REFUSALS {
+                let tells = match number {
+                    1 => 4,
+                    5 => 2,
+                    6 => 0,
+                    _ => 1,
+                };
+                for at in tells..4 {
+                    let mut more = numbers;
+                    more[at] = 1;
+                    assert_eq!(told(judge, size_for(number), number, more), Refusal::BadArchive);
+                }
+            }
         }
     }
 
     #[test]
     fn a_least_total_is_not_below_the_end_of_a_part() {
-        let told = |fourth: u16| {
-            accepted(ffi::Answer {
-                number: 1,
-                first: 4,
-                second: 19,
-                third: 18,
-                fourth,
-            })
-        };
-        for fourth in [0, 17, 18] {
-            assert_eq!(told(fourth), Err(Refusal::BadArchive));
-        }
-        for fourth in [19, 20, 27, u16::MAX] {
-            let refusal = Refusal::Short {
-                place: 4,
-                need: 19,
-                have: 18,
-                least: fourth.into(),
-            };
-            assert_eq!(told(fourth), Err(refusal));
+        for judge in [accepted_on::<PARSE>, accepted_on::<READ>] {
+            for least in [0, 17, 18] {
+                assert_eq!(told(judge, 44, 1, [4, 19, 18, least]), Refusal::BadArchive);
+            }
+            for least in [19, 20, 27, u16::MAX] {
+                let refusal = Refusal::Short {
+                    place: 4,
+                    need: 19,
+                    have: 18,
+                    least: least.into(),
+                };
+                assert_eq!(told(judge, 44, 1, [4, 19, 18, least]), refusal);
+            }
         }
     }
 

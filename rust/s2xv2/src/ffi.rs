@@ -88,7 +88,7 @@ pub(crate) struct Stepped {
 }
 
 /// The version that the structs and calls below are of: major * 65536 + minor * 256 + patch.
-pub(crate) const VERSION: u32 = 4 * 256;
+pub(crate) const VERSION: u32 = 5 * 256;
 /// Where the bytes of a record start.
 const BYTES: usize = 40;
 /// Where the three sizes of a job start.

@@ -1,5 +1,5 @@
 //! The job that replaces the descriptor in a slot.
-use crate::crossing::{accepted, flag, record_in};
+use crate::crossing::{accepted_on, flag, record_in, BEGIN};
 use crate::{ffi, Refusal, S2Xv2SatelliteDeliverySystem, Slot};
 use core::fmt;
 use core::mem::MaybeUninit;
@@ -65,12 +65,23 @@ impl Job {
     /// let mut slot = Slot::new(&mut bytes);
     /// slot.make_empty()?;
     /// assert_eq!(Job::begin(&slot, &record), Err(Refusal::NoFit { size: 21 }));
+    ///
+    /// // Damage: stuffing of 4 bytes, then zeros. No job begins there until the slot is made empty.
+    /// let mut bytes = [0; 23];
+    /// bytes[..2].copy_from_slice(&[0x42, 2]);
+    /// let mut slot = Slot::new(&mut bytes);
+    /// assert_eq!(Job::begin(&slot, &record), Err(Refusal::SlotForm { offset: 4 }));
+    /// slot.make_empty()?;
+    /// assert!(Job::begin(&slot, &record).is_ok());
+    ///
+    /// // A wrong size.
+    /// assert_eq!(Job::begin(&Slot::new(&mut bytes[..20]), &record), Err(Refusal::Slot));
     /// # Ok::<(), Refusal>(())
     /// ```
     ///
     /// # Errors
-    /// [`Refusal::TooManyIds`], then [`Refusal::Slot`], [`Refusal::Inconsistent`], [`Refusal::Long`], [`Refusal::NoFit`],
-    /// [`Refusal::Field`].
+    /// [`Refusal::TooManyIds`], then [`Refusal::Slot`], [`Refusal::SlotForm`], [`Refusal::Inconsistent`], [`Refusal::Long`],
+    /// [`Refusal::NoFit`], [`Refusal::Field`].
     pub fn begin(slot: &Slot<'_>, record: &S2Xv2SatelliteDeliverySystem<'_>) -> Result<Self, Refusal> {
         let mut crossing = ffi::Record::default();
         record_in(record, &mut crossing)?;
@@ -82,7 +93,7 @@ impl Job {
     pub(crate) fn begin_raw(slot: &Slot<'_>, record: &ffi::Record, tail: &[u8]) -> Result<Self, Refusal> {
         let mut place = MaybeUninit::uninit();
         let (answer, job) = ffi::begin(slot.bytes(), record, tail, &mut place);
-        accepted(answer)?;
+        accepted_on::<BEGIN>(slot.bytes().len(), answer)?;
         Ok(Self { inner: job.clone() })
     }
 
@@ -240,7 +251,7 @@ mod tests {
 
     #[test]
     fn tellings_that_no_contract_allows() {
-        for (number, done) in [(1, 0), (100, 0), (255, 1)] {
+        for (number, done) in [(1, 0), (6, 0), (12, 0), (100, 0), (255, 1)] {
             let told = ffi::Advanced { stores: 1, number, done };
             assert_eq!(progress(told), Err(Refusal::BadArchive));
         }

@@ -1,5 +1,5 @@
 //! The record as the library has it.
-use crate::crossing::{accepted, flag, id_count, record_in, superframe_out, there};
+use crate::crossing::{accepted, flag, id_count, record_in, superframe_out, there, MEASURE, PARSE, WRITE};
 use crate::slot::tail_of;
 use crate::{ffi, Job, Polarization, Refusal, RollOff, S2Xv2Mode, S2Xv2SatelliteDeliverySystem, S2Xv2Superframe, Slot};
 
@@ -53,7 +53,7 @@ impl RawRecord {
     /// [`Refusal::Long`] above 4,096 bytes, and [`Refusal::Short`] for a body that ends inside a part.
     #[inline]
     pub fn parse_into(&mut self, body: &[u8]) -> Result<usize, Refusal> {
-        let (start, _) = accepted(ffi::parse_again(body, &mut self.c))?;
+        let (start, _) = accepted::<PARSE>(ffi::parse_again(body, &mut self.c))?;
         if start > body.len() {
             return Err(Refusal::BadArchive);
         }
@@ -80,7 +80,7 @@ impl RawRecord {
     /// ```
     ///
     /// # Errors
-    /// [`Refusal::Slot`] for a wrong size or form, and [`Refusal::Short`] for a body that ends inside a part.
+    /// [`Refusal::Slot`] for a wrong size, then [`Refusal::SlotForm`], then [`Refusal::Short`] for a body that ends inside a part.
     #[inline]
     pub fn read_slot<'a>(&mut self, slot: &'a [u8]) -> Result<Option<&'a [u8]>, Refusal> {
         tail_of(slot, ffi::slot_read_again(slot, &mut self.c))
@@ -92,7 +92,7 @@ impl RawRecord {
     /// [`Refusal::Inconsistent`], then [`Refusal::Long`] above 4,096 bytes.
     #[inline]
     pub fn serialized_len(&self, tail: &[u8]) -> Result<usize, Refusal> {
-        let (length, _) = accepted(ffi::serialized_len(&self.c, tail))?;
+        let (length, _) = accepted::<MEASURE>(ffi::serialized_len(&self.c, tail))?;
         Ok(length)
     }
 
@@ -103,7 +103,7 @@ impl RawRecord {
     /// Those of [`serialized_len`](Self::serialized_len), then [`Refusal::Room`], then [`Refusal::Field`].
     #[inline]
     pub fn serialize_into(&self, tail: &[u8], buffer: &mut [u8]) -> Result<usize, Refusal> {
-        let (length, _) = accepted(ffi::serialize_into(&self.c, tail, buffer))?;
+        let (length, _) = accepted::<WRITE>(ffi::serialize_into(&self.c, tail, buffer))?;
         Ok(length)
     }
 
@@ -122,7 +122,8 @@ impl RawRecord {
     /// ```
     ///
     /// # Errors
-    /// [`Refusal::Slot`], [`Refusal::Inconsistent`], [`Refusal::Long`], [`Refusal::NoFit`], [`Refusal::Field`], in this order.
+    /// [`Refusal::Slot`], [`Refusal::SlotForm`], [`Refusal::Inconsistent`], [`Refusal::Long`], [`Refusal::NoFit`], [`Refusal::Field`], in this
+    /// order.
     #[inline]
     pub fn begin(&self, slot: &Slot<'_>, tail: &[u8]) -> Result<Job, Refusal> {
         Job::begin_raw(slot, &self.c, tail)

@@ -1,5 +1,5 @@
 //! The record of a body.
-use crate::crossing::{accepted, record_in, record_out};
+use crate::crossing::{accepted, record_in, record_out, MEASURE, PARSE, WRITE};
 use crate::{ffi, Polarization, Refusal, RollOff, S2Xv2Mode, S2Xv2Superframe};
 use alloc::vec::Vec;
 use core::mem::MaybeUninit;
@@ -135,7 +135,7 @@ impl<'a> S2Xv2SatelliteDeliverySystem<'a> {
     pub fn parse(body: &'a [u8]) -> Result<Self, Refusal> {
         let mut place = MaybeUninit::uninit();
         let (answer, record) = ffi::parse(body, &mut place);
-        let (start, _) = accepted(answer)?;
+        let (start, _) = accepted::<PARSE>(answer)?;
         let tail = body.get(start..).ok_or(Refusal::BadArchive)?;
         record_out(record, tail)
     }
@@ -158,7 +158,7 @@ impl<'a> S2Xv2SatelliteDeliverySystem<'a> {
     pub fn serialized_len(&self) -> Result<usize, Refusal> {
         let mut record = ffi::Record::default();
         record_in(self, &mut record)?;
-        let (length, _) = accepted(ffi::serialized_len(&record, self.reserved_tail))?;
+        let (length, _) = accepted::<MEASURE>(ffi::serialized_len(&record, self.reserved_tail))?;
         Ok(length)
     }
 
@@ -186,7 +186,7 @@ impl<'a> S2Xv2SatelliteDeliverySystem<'a> {
     pub fn serialize_into(&self, buffer: &mut [u8]) -> Result<usize, Refusal> {
         let mut record = ffi::Record::default();
         record_in(self, &mut record)?;
-        let (length, _) = accepted(ffi::serialize_into(&record, self.reserved_tail, buffer))?;
+        let (length, _) = accepted::<WRITE>(ffi::serialize_into(&record, self.reserved_tail, buffer))?;
         Ok(length)
     }
 }

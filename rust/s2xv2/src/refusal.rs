@@ -59,7 +59,7 @@ pub enum Refusal {
         /// How many the buffer has.
         have: usize,
     },
-    /// A slot of a wrong size or form.
+    /// A slot of a wrong size: below 21 or above 257 bytes.
     Slot,
     /// A descriptor that is larger than the slot, or exactly one byte smaller.
     NoFit {
@@ -68,6 +68,12 @@ pub enum Refusal {
     },
     /// A step on a slot of another size than at begin, or of a job that no begin and steps could give.
     OtherSize,
+    /// A slot of a good size that is not in good form.
+    SlotForm {
+        /// Where the first descriptor starts that breaks the form, counted from the slot's start: one that runs past the slot's end or of which
+        /// one byte is left, one that is neither stuffing nor ours, a 0x7F of length 0, or the second 0x7F.
+        offset: usize,
+    },
     /// A record with more than 255 ids. Their count crosses the boundary in one byte, so it is refused before anything crosses.
     TooManyIds {
         /// How many ids the record has.
@@ -94,8 +100,8 @@ fn are(count: usize) -> &'static str {
 }
 
 impl Refusal {
-    /// The number of the refusal, from 1 to 8. [`Refusal::TooManyIds`] has 100 and [`Refusal::BadArchive`] 101, numbers of this crate's own:
-    /// no archive answers them.
+    /// The number of the refusal: 1 to 8, and 12. [`Refusal::TooManyIds`] has 100 and [`Refusal::BadArchive`] 101, numbers of this crate's
+    /// own: no archive answers them.
     #[must_use]
     pub const fn number(&self) -> u8 {
         match self {
@@ -107,6 +113,7 @@ impl Refusal {
             Self::Slot => 6,
             Self::NoFit { .. } => 7,
             Self::OtherSize => 8,
+            Self::SlotForm { .. } => 12,
             Self::TooManyIds { .. } => 100,
             Self::BadArchive => 101,
         }
@@ -121,6 +128,7 @@ impl Refusal {
             Self::Inconsistent { place } | Self::Field { place } => [place.into(), 0, 0, 0],
             Self::Room { need, have } => [need, have, 0, 0],
             Self::NoFit { size } => [size, 0, 0, 0],
+            Self::SlotForm { offset } => [offset, 0, 0, 0],
             Self::TooManyIds { count } => [count, 0, 0, 0],
             Self::Slot | Self::OtherSize | Self::BadArchive => [0; 4],
         }
@@ -143,12 +151,13 @@ impl fmt::Display for Refusal {
             Self::Inconsistent { place } => write!(f, "the record contradicts itself: {}", words(inconsistent::WORDS, place)),
             Self::Field { place } => write!(f, "the wire cannot carry the record: {}", words(field::WORDS, place)),
             Self::Room { need, have } => write!(f, "the buffer is too small: {need} bytes are needed, {have} {} there", are(have)),
-            Self::Slot => f.write_str("the slot is not in good form, or its size is not from 21 to 257"),
+            Self::Slot => f.write_str("the slot has a wrong size: a slot has 21 to 257 bytes"),
             Self::NoFit { size } => write!(
                 f,
                 "a descriptor of {size} bytes is larger than the slot, or exactly one byte smaller"
             ),
             Self::OtherSize => f.write_str("the slot has another size than at begin, or no begin and steps could give the job"),
+            Self::SlotForm { offset } => write!(f, "the slot is not in good form: the descriptor at offset {offset} breaks it"),
             Self::TooManyIds { count } => write!(f, "the record has {count} ids: 255 are the most that can cross the boundary"),
             Self::BadArchive => f.write_str("the linked archive gave no answer that its contracts allow: it is not the one for this crate"),
         }
@@ -204,9 +213,14 @@ mod tests {
                 Refusal::Room { need: 18, have: 0 },
                 "the buffer is too small: 18 bytes are needed, 0 are there",
             ),
+            (Refusal::Slot, "the slot has a wrong size: a slot has 21 to 257 bytes"),
             (
                 Refusal::NoFit { size: 21 },
                 "a descriptor of 21 bytes is larger than the slot, or exactly one byte smaller",
+            ),
+            (
+                Refusal::SlotForm { offset: 20 },
+                "the slot is not in good form: the descriptor at offset 20 breaks it",
             ),
             (
                 Refusal::TooManyIds { count: 256 },
@@ -240,6 +254,7 @@ mod tests {
             (Refusal::Slot, [0; 4]),
             (Refusal::NoFit { size: 21 }, [21, 0, 0, 0]),
             (Refusal::OtherSize, [0; 4]),
+            (Refusal::SlotForm { offset: 256 }, [256, 0, 0, 0]),
         ] {
             assert_eq!(refusal.told(), told);
         }

@@ -1,5 +1,5 @@
 //! A slot of a loop.
-use crate::crossing::{accepted, record_out};
+use crate::crossing::{accepted_on, record_out, EMPTY, READ};
 use crate::{ffi, Refusal, S2Xv2SatelliteDeliverySystem};
 use core::mem::MaybeUninit;
 
@@ -14,7 +14,8 @@ use core::mem::MaybeUninit;
 /// assert_eq!(read_slot(&copy), Ok(None));
 ///
 /// copy[1] = 18; // stuffing that ends one byte too early
-/// assert_eq!(read_slot(&copy), Err(Refusal::Slot));
+/// assert_eq!(read_slot(&copy), Err(Refusal::SlotForm { offset: 20 }));
+/// assert_eq!(read_slot(&copy[..20]), Err(Refusal::Slot));
 /// ```
 ///
 /// Stuffing may stand on either side of the descriptor, and the tail ends where the descriptor ends:
@@ -29,12 +30,12 @@ use core::mem::MaybeUninit;
 /// assert_eq!(read_slot(&copy)?.unwrap().reserved_tail, [1, 2]);
 ///
 /// copy[27..].copy_from_slice(&[0x7F, 1, 0x24]); // a second one
-/// assert_eq!(read_slot(&copy), Err(Refusal::Slot));
+/// assert_eq!(read_slot(&copy), Err(Refusal::SlotForm { offset: 27 }));
 /// # Ok::<(), Refusal>(())
 /// ```
 ///
 /// # Errors
-/// [`Refusal::Slot`] for a wrong size or form, and [`Refusal::Short`] for a body that ends inside a part.
+/// [`Refusal::Slot`] for a wrong size, then [`Refusal::SlotForm`], then [`Refusal::Short`] for a body that ends inside a part.
 pub fn read_slot(bytes: &[u8]) -> Result<Option<S2Xv2SatelliteDeliverySystem<'_>>, Refusal> {
     let mut place = MaybeUninit::uninit();
     let (answer, record) = ffi::slot_read(bytes, &mut place);
@@ -47,7 +48,7 @@ pub fn read_slot(bytes: &[u8]) -> Result<Option<S2Xv2SatelliteDeliverySystem<'_>
 /// The tail that an answer about a slot tells, or `None` of an empty slot.
 #[inline]
 pub(crate) fn tail_of(bytes: &[u8], answer: ffi::Answer) -> Result<Option<&[u8]>, Refusal> {
-    let (start, length) = accepted(answer)?;
+    let (start, length) = accepted_on::<READ>(bytes.len(), answer)?;
     if start == 0 {
         return Ok(None);
     }
@@ -58,9 +59,9 @@ pub(crate) fn tail_of(bytes: &[u8], answer: ffi::Answer) -> Result<Option<&[u8]>
 /// The bytes of a loop in which one descriptor is kept: from 21 to 257 of them.
 ///
 /// A slot is in good form when descriptors, one behind the other, cover it exactly, each of them stuffing (0x42, of any length) or ours
-/// (0x7F, of a length of at least 1, with 0x24 as its third byte), and at most one of them ours. It reads as that one, wherever it stands, or
-/// as empty; a job stores its descriptor at the slot's start, whatever stood there. A slot may be made from any bytes: each call judges
-/// them by itself.
+/// (0x7F, of a length of at least 1, with 0x24 as its third byte), and at most one of them ours; where it is not, [`Refusal::SlotForm`] tells the
+/// first descriptor that breaks the form. It reads as the one of ours, wherever that stands, or as empty; a job stores its descriptor at the
+/// slot's start, whatever stood there. A slot may be made from any bytes: each call judges them by itself.
 #[derive(Debug)]
 pub struct Slot<'a> {
     bytes: &'a mut [u8],
@@ -103,13 +104,15 @@ impl<'a> Slot<'a> {
     /// let slot = Slot::new(&mut bytes);
     /// assert_eq!(slot.read()?.unwrap().symbol_rate, 7);
     ///
-    /// bytes[0] = 0x43;
-    /// assert_eq!(Slot::new(&mut bytes).read(), Err(Refusal::Slot));
+    /// bytes[0] = 0x43; // a foreign tag: damage
+    /// assert_eq!(Slot::new(&mut bytes).read(), Err(Refusal::SlotForm { offset: 0 }));
+    /// // too few bytes for a slot, whatever they are
+    /// assert_eq!(Slot::new(&mut bytes[..20]).read(), Err(Refusal::Slot));
     /// # Ok::<(), Refusal>(())
     /// ```
     ///
     /// # Errors
-    /// [`Refusal::Slot`] for a wrong size or form, and [`Refusal::Short`] for a body that ends inside a part.
+    /// [`Refusal::Slot`] for a wrong size, then [`Refusal::SlotForm`], then [`Refusal::Short`] for a body that ends inside a part.
     pub fn read(&self) -> Result<Option<S2Xv2SatelliteDeliverySystem<'_>>, Refusal> {
         read_slot(self.bytes)
     }
@@ -134,7 +137,8 @@ impl<'a> Slot<'a> {
     /// # Errors
     /// [`Refusal::Slot`] for a size below 21 or above 257; then nothing is stored.
     pub fn make_empty(&mut self) -> Result<(), Refusal> {
-        accepted(ffi::slot_make_empty(self.bytes)).map(|_| ())
+        let answer = ffi::slot_make_empty(self.bytes);
+        accepted_on::<EMPTY>(self.bytes.len(), answer).map(|_| ())
     }
 
     /// The slot's bytes.

@@ -25,16 +25,26 @@ fn ours(slot: &[u8]) -> Result<Option<Range<usize>>, Refusal> {
     }
     let (mut at, mut ours) = (0, None);
     while at < slot.len() {
-        let length = *slot.get(at + 1).ok_or(Refusal::Slot)?;
+        let broken = Refusal::SlotForm { offset: at };
+        let length = *slot.get(at + 1).ok_or(broken)?;
         let end = at + 2 + usize::from(length);
-        match slot.get(at..end).ok_or(Refusal::Slot)? {
+        match slot.get(at..end).ok_or(broken)? {
             [0x42, ..] => {}
             [0x7F, _, 0x24, ..] if ours.is_none() => ours = Some(at..end),
-            _ => return Err(Refusal::Slot),
+            _ => return Err(broken),
         }
         at = end;
     }
     Ok(ours)
+}
+
+/// A slot that breaks the form at an offset is in good form if it is cut there, from 21 bytes on; and a job begins there once it is made empty.
+fn repaired(slot: &[u8], offset: usize) {
+    assert!(offset < 21 || judged(&slot[..offset]), "{slot:02X?}");
+    let mut bytes = slot.to_vec();
+    let mut slot = Slot::new(&mut bytes);
+    assert_eq!(slot.make_empty(), Ok(()));
+    assert!(Job::begin(&slot, &Record::default()).is_ok() || slot.bytes().len() == 22);
 }
 
 /// What a slot reads as, where its tail starts, and what begin says, are as the walk has it. Tells whether the slot is in good form.
@@ -68,7 +78,10 @@ fn judged(slot: &[u8]) -> bool {
         Ok(_) => Ok(slot.len() + 2),
     };
     assert_eq!((begun, bytes.as_slice()), (stores, slot), "{slot:02X?}");
-    stores != Err(Refusal::Slot)
+    if let Err(Refusal::SlotForm { offset }) = stores {
+        repaired(slot, offset);
+    }
+    !matches!(stores, Err(Refusal::Slot | Refusal::SlotForm { .. }))
 }
 
 /// Where the tail of the record that a slot holds starts and how long it is; or a refusal.
@@ -104,21 +117,103 @@ fn stuffing_on_either_side() {
 
 #[test]
 fn what_breaks_the_form() {
-    for (size, heads) in [
-        (44, &[(0x7F, 0), (0x24, 40)][..]),
-        (44, &[(0x7F, 0), (0x42, 40)]),
-        (44, &[(0x42, 10), (0x7F, 29)]),
-        (44, &[(0x42, 10), (0x7F, 31)]),
-        (44, &[(0x42, 10), (0x42, 31)]),
-        (44, &[(0x42, 10), (0x7F, 255)]),
-        (44, &[(0x7F, 19), (0x7F, 21)]),
-        (44, &[(0x7F, 19), (0x42, 0), (0x7F, 19)]),
-        (44, &[(0x42, 10), (0x48, 8), (0x7F, 20)]),
-        (44, &[(0x42, 0), (0x7F, 19), (0x48, 19)]),
-        (20, &[(0x42, 0), (0x42, 16)]),
-        (258, &[(0x42, 1), (0x7F, 253)]),
+    for (size, heads, offset) in [
+        (44, &[(0x7F, 0), (0x24, 40)][..], 0),
+        (44, &[(0x7F, 0), (0x42, 40)], 0),
+        (44, &[(0x42, 10), (0x7F, 29)], 43),
+        (44, &[(0x42, 10), (0x7F, 31)], 12),
+        (44, &[(0x42, 10), (0x42, 31)], 12),
+        (44, &[(0x42, 10), (0x7F, 255)], 12),
+        (44, &[(0x7F, 19), (0x7F, 21)], 21),
+        (44, &[(0x7F, 19), (0x42, 0), (0x7F, 19)], 23),
+        (44, &[(0x42, 10), (0x48, 8), (0x7F, 20)], 12),
+        (44, &[(0x42, 0), (0x7F, 19), (0x48, 19)], 23),
     ] {
+        assert_eq!(tail(size, heads), Err(Refusal::SlotForm { offset }), "{heads:02X?}");
+    }
+    for (size, heads) in [(20, &[(0x42, 0), (0x42, 16)]), (258, &[(0x42, 1), (0x7F, 253)])] {
         assert_eq!(tail(size, heads), Err(Refusal::Slot), "{heads:02X?}");
+    }
+}
+
+/// Where the form of a slot breaks.
+fn broken(slot: &[u8]) -> Option<usize> {
+    assert!(!judged(slot));
+    match read_slot(slot) {
+        Err(Refusal::SlotForm { offset }) => Some(offset),
+        _ => None,
+    }
+}
+
+/// One of ours of 21 bytes.
+fn smallest() -> Vec<u8> {
+    laid(21, &[(0x7F, 19)])
+}
+
+#[test]
+fn each_cause_behind_each_front() {
+    let causes: [&[u8]; 9] = [
+        &[0x42, 250],
+        &[0x7F, 250, 0x24],
+        &[0x48, 0],
+        &[0x48, 250],
+        &[0x7F, 3, 0x25],
+        &[0x7F, 250, 0x25],
+        &[0x7F, 0],
+        &[0x7F, 0, 0x24],
+        &[0xFF, 0xFF],
+    ];
+    let seconds: [&[u8]; 4] = [&[0x7F, 1, 0x24], &[0x7F, 3, 0x25], &[0x7F, 250, 0x24], &[0x7F, 0]];
+    for front in [vec![], vec![0x42, 3, 1, 2, 3], smallest()] {
+        let seconds = seconds.iter().filter(|_| front.len() == 21);
+        for cause in causes.iter().chain(seconds) {
+            let mut slot = [&front, *cause].concat();
+            slot.resize(60, 0);
+            assert_eq!(broken(&slot), Some(front.len()), "{slot:02X?}");
+        }
+    }
+}
+
+#[test]
+fn causes_as_the_last_bytes() {
+    let ends: [&[u8]; 6] = [&[0x42], &[0x7F], &[0x7F, 0], &[0x48, 0], &[0x42, 1], &[0x7F, 1, 0x25]];
+    for n in 21..=257 {
+        for end in ends {
+            let front = n - end.len();
+            let mut slot = laid(front, &[(0x42, (front - 2) as u8)]);
+            slot.extend(end);
+            assert_eq!(broken(&slot), Some(front), "{slot:02X?}");
+        }
+    }
+}
+
+#[test]
+fn the_largest_offset() {
+    for heads in [&[(0x42, 254)][..], &[(0x7F, 254)], &[(0x42, 0)], &[(0x7F, 20), (0x42, 232)]] {
+        let mut slot = laid(256, heads);
+        assert!(judged(&slot));
+        for byte in [0x00, 0x42, 0x7F, 0x24, 0xFF] {
+            slot.truncate(256);
+            slot.push(byte);
+            assert_eq!(broken(&slot), Some(256));
+        }
+    }
+}
+
+#[test]
+fn every_descriptor_broken() {
+    for n in 21..=257 {
+        for heads in [
+            &[(0x48, 0)][..],
+            &[(0x7F, 0)],
+            &[(0x00, 5), (0x7F, 0)],
+            &[(0x41, 255)],
+            &[(0x43, 1), (0x80, 2)],
+        ] {
+            assert_eq!(broken(&laid(n, heads)), Some(0), "{n} {heads:02X?}");
+        }
+        let third: Vec<u8> = [0x7F, 3, 0x25, 0x24, 0x24].into_iter().cycle().take(n).collect();
+        assert_eq!(broken(&third), Some(0), "{n}");
     }
 }
 
@@ -126,9 +221,16 @@ fn what_breaks_the_form() {
 fn the_same_byte_throughout() {
     for n in (0..300).chain([4096]) {
         for byte in [0x00, 0x42, 0x7F, 0x24, 0xFF] {
-            let good = judged(&vec![byte; n]);
+            let slot = vec![byte; n];
             // 0x42 is a length of 66, so descriptors of 68 bytes.
-            assert_eq!(good, byte == 0x42 && [68, 136, 204].contains(&n), "{n} of {byte:02X}");
+            let offset = if byte == 0x42 { n / 68 * 68 } else { 0 };
+            let refusal = match n {
+                21..=257 if offset < n => Some(Refusal::SlotForm { offset }),
+                21..=257 => None,
+                _ => Some(Refusal::Slot),
+            };
+            assert_eq!(judged(&slot), refusal.is_none(), "{n} of {byte:02X}");
+            assert_eq!(read_slot(&slot).err(), refusal, "{n} of {byte:02X}");
         }
     }
 }

@@ -323,7 +323,10 @@ fn a_refused_body_leaves_the_default_record() {
     assert_eq!(raw, RawRecord::default());
     let mut slot = [7; 21];
     raw = filled();
-    assert_eq!(raw.read_slot(&slot), Err(Refusal::Slot));
+    assert_eq!(raw.read_slot(&slot), Err(Refusal::SlotForm { offset: 0 }));
+    assert_eq!(raw, RawRecord::default());
+    raw = filled();
+    assert_eq!(raw.read_slot(&slot[..20]), Err(Refusal::Slot));
     assert_eq!(raw, RawRecord::default());
     Slot::new(&mut slot).make_empty().unwrap();
     raw = filled();

@@ -50,21 +50,23 @@ fn a_body_that_ends_inside_a_part() {
 
 #[test]
 fn forms_of_a_slot() {
-    for (start, good) in [
-        ([0x42, 19, 0x24], true),
-        ([0x42, 18, 0x24], false),
-        ([0x42, 20, 0x24], false),
-        ([0x42, 255, 0x24], false),
-        ([0x7F, 19, 0x24], true),
-        ([0x7F, 19, 0x25], false),
-        ([0x7F, 0, 0x42], false),
-        ([0x43, 19, 0x24], false),
+    for (start, broken) in [
+        ([0x42, 19, 0x24], None),
+        ([0x42, 18, 0x24], Some(20)),
+        ([0x42, 20, 0x24], Some(0)),
+        ([0x42, 255, 0x24], Some(0)),
+        ([0x7F, 19, 0x24], None),
+        ([0x7F, 18, 0x24], Some(20)),
+        ([0x7F, 19, 0x25], Some(0)),
+        ([0x7F, 0, 0x42], Some(0)),
+        ([0x43, 19, 0x24], Some(0)),
     ] {
         let mut bytes = [0; 21];
         bytes[..3].copy_from_slice(&start);
-        assert_eq!(read_slot(&bytes).is_ok(), good, "{start:02X?}");
+        let refusal = broken.map(|offset| Refusal::SlotForm { offset });
+        assert_eq!(read_slot(&bytes).err(), refusal, "{start:02X?}");
         let begun = Job::begin(&Slot::new(&mut bytes), &Record::default());
-        assert_eq!(begun.err(), (!good).then_some(Refusal::Slot), "{start:02X?}");
+        assert_eq!(begun.err(), refusal, "{start:02X?}");
     }
 }
 
@@ -105,9 +107,13 @@ fn begin_refuses_in_its_order() {
     record.channel_bond = 0;
     assert_eq!(Job::begin(&slot, &record), Err(Refusal::Inconsistent { place: 6 }));
     let mut bad = [7; 64];
-    assert_eq!(Job::begin(&Slot::new(&mut bad), &record), Err(Refusal::Slot));
+    assert_eq!(Job::begin(&Slot::new(&mut bad), &record), Err(Refusal::SlotForm { offset: 0 }));
+    assert_eq!(Job::begin(&Slot::new(&mut bad[..20]), &record), Err(Refusal::Slot));
     record.secondary_delivery_system_ids = vec![0; 256];
-    assert_eq!(Job::begin(&Slot::new(&mut bad), &record), Err(Refusal::TooManyIds { count: 256 }));
+    assert_eq!(
+        Job::begin(&Slot::new(&mut bad[..20]), &record),
+        Err(Refusal::TooManyIds { count: 256 })
+    );
 }
 
 /// The slot after a job of `record` on `start` was stepped by each allowance in turn.

@@ -23,8 +23,8 @@ enum-told c = search needs
 refused-requires : tie.Need-refused-requires
 refused-requires c κs = search needs
 
-enum-told-2 : tie.Need-enum-told-2
-enum-told-2 c = search needs
+enum-known-form : tie.Need-enum-known-form
+enum-known-form c = search needs
 
 refused-requires-2 : tie.Need-refused-requires-2
 refused-requires-2 c κs = search needs
@@ -38,7 +38,7 @@ returns c = c .refused .ensures ∙ refuses _ _ _ R.Slot _ (told-form _ _ _ F.Si
 
 returns-2 : tie.Need-returns-2
 unfolding beginOf
-returns-2 c = c .refused2 .ensures ∙ refuses _ _ _ R.Slot _ (told-form _ _ _ (F.Broken _) (sym (c .before .enum-told2 .given .1) ∙ c .before .before .before .form-of .ensures))
+returns-2 c = c .refused2 .ensures ∙ refuses _ _ _ (R.SlotForm _) _ (told-form _ _ _ (F.Broken _) (sym (c .before .before .form .given .1) ∙ c .before .before .before .before .form-of .ensures))
 
 returns-3 : tie.Need-returns-3
 unfolding beginOf
@@ -50,4 +50,4 @@ returns-3 c =
 pub begin-spec : {M : Type 1} → statement M
 begin-spec =
     tie.close
-    (tie.spec form-of-requires enum-told refused-requires enum-told-2 refused-requires-2 begin-sized-requires returns returns-2 returns-3)
+    (tie.spec form-of-requires enum-told refused-requires enum-known-form refused-requires-2 begin-sized-requires returns returns-2 returns-3)

@@ -24,8 +24,8 @@ enum-told c = search needs
 refused-plain-requires : tie.Need-refused-plain-requires
 refused-plain-requires c κs = search needs
 
-enum-told-2 : tie.Need-enum-told-2
-enum-told-2 c = search needs
+enum-known-form : tie.Need-enum-known-form
+enum-known-form c = search needs
 
 refused-plain-requires-2 : tie.Need-refused-plain-requires-2
 refused-plain-requires-2 c κs = search needs
@@ -47,9 +47,9 @@ returns-2 : tie.Need-returns-2
 unfolding beginOf
 returns-2 c =
     let e = c .refused-plain2 .ensures in
-    let way = c .before .before .before in
-    let told = told-form _ _ _ (F.Broken _) (sym (way .enum-told2 .given .1) ∙ way .before .before .form-of .ensures) in
-    crossed (refuses _ _ _ R.Slot _ told) (e .0) (e .1 .0) (e .1 .1)
+    let way = c .before .before .before .before in
+    let told = told-form _ _ _ (F.Broken _) (sym (way .form .given .1) ∙ way .before .before .form-of .ensures) in
+    crossed (refuses _ _ _ (R.SlotForm _) _ told) (e .0) (e .1 .0) (e .1 .1)
 
 returns-3 : tie.Need-returns-3
 unfolding beginOf
@@ -69,7 +69,7 @@ begin-plain-spec =
     form-of-requires
     enum-told
     refused-plain-requires
-    enum-told-2
+    enum-known-form
     refused-plain-requires-2
     sized-plain-requires
     returns
