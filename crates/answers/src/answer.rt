@@ -3,7 +3,7 @@ ghost use Rattle.std.specs.Prelude.{◌≡◌};
 ghost use Rattle.answers.specs.Answer.{numbers, saturated, told_now};
 
 // Why a call was refused: answers 1 to 7, and 12. A step has an answer of its own, which has number 8.
-#[derive(Drop)]
+#[derive(Clone, Copy)]
 pub enum Refusal {
     // The body ends inside a part: which one, where that part ends, how long the body is, and how long the whole has to be at the least.
     Short {
@@ -42,14 +42,14 @@ pub enum Refusal {
 }
 
 // The answer of a call whose result is a number: where the tail starts, or a length.
-#[derive(Drop)]
+#[derive(Clone, Copy)]
 pub enum Answer {
     Accepted(usize),
     Refused(Refusal),
 }
 
 // The numbers that a refusal tells, its own first: how many there are, and these, with 0 behind them.
-#[derive(Drop)]
+#[derive(Clone, Copy)]
 pub struct Told {
     pub count: usize,
     pub numbers: [usize; 5],

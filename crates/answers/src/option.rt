@@ -3,21 +3,21 @@ ghost use Rattle.std.specs.Prelude.{◌≡◌};
 ghost use Rattle.answers.specs.Options.{selected, or_zero8, or_zero32};
 
 // A flag that may be absent.
-#[derive(Drop)]
+#[derive(Clone, Copy)]
 pub enum OptionBool {
     None,
     Some(bool),
 }
 
 // A number of one byte that may be absent.
-#[derive(Drop)]
+#[derive(Clone, Copy)]
 pub enum OptionU8 {
     None,
     Some(u8),
 }
 
 // A number of four bytes that may be absent.
-#[derive(Drop)]
+#[derive(Clone, Copy)]
 pub enum OptionU32 {
     None,
     Some(u32),

@@ -7,7 +7,7 @@ use crate::answer::{Answer, Refusal, saturated};
 
 // An answer: its number, and up to four numbers that it tells, 0 where it tells fewer. It goes in two registers.
 #[repr(C)]
-#[derive(Drop)]
+#[derive(Clone, Copy)]
 pub struct PlainAnswer {
     pub number: u16,
     pub first: u16,
@@ -18,7 +18,7 @@ pub struct PlainAnswer {
 
 // A part of what was lent: where it starts, and how many bytes it has.
 #[repr(C)]
-#[derive(Drop)]
+#[derive(Clone, Copy)]
 pub struct PlainPart {
     pub place: usize,
     pub length: usize,

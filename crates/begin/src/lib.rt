@@ -1,4 +1,6 @@
 // Begins a job.
+#![tactic(auto)]
+
 ghost use Rattle.std.specs.Prelude.{◌≡◌, [], ◌∷◌, ◌+◌, ◌≤◌, replicate};
 ghost use Rattle.answers.specs.Answer.{numbers};
 ghost use Rattle.job.specs.Job.{job_of, fits_in};
@@ -16,7 +18,7 @@ use s2xv2_plain::input::of_plain;
 use s2xv2_writer::write_ready;
 
 // The answer, and the job: where begin is refused all of its bytes and numbers are 0, and step refuses it.
-#[derive(Drop)]
+#[derive(Clone, Copy)]
 pub struct Begun {
     // Accepted tells how many stores the job makes.
     pub answer: Answer,

@@ -12,7 +12,7 @@ use wire::field::bit_of;
 
 // What a step tells: how many stores it made, 0 or 8, and whether the job has none left, as a flag.
 #[repr(C)]
-#[derive(Drop)]
+#[derive(Clone, Copy)]
 pub struct PlainAdvanced {
     pub stores: usize,
     pub number: u8,
@@ -21,7 +21,7 @@ pub struct PlainAdvanced {
 
 // The job after the step, and what the step tells.
 #[repr(C)]
-#[derive(Drop)]
+#[derive(Clone, Copy)]
 pub struct PlainStepped {
     pub job: Job,
     pub told: PlainAdvanced,
@@ -55,7 +55,7 @@ fn step_number(answer: StepAnswer) -> u8
 }
 
 // What a step learns: what it tells, and how many stores the job has made in all.
-#[derive(Drop)]
+#[derive(Clone, Copy)]
 struct PlainMoved {
     made: usize,
     stores: usize,

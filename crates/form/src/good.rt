@@ -6,7 +6,7 @@ ghost use Rattle.form.specs.Bytewise.{ours_at};
 use crate::envelope::{EXTENSION, STUFFING_TAG, TAG};
 
 // The form of a slot: good, and then empty or not, or else what is wrong.
-#[derive(Drop)]
+#[derive(Clone, Copy)]
 pub enum Form {
     // The size is outside 21 to 257.
     Size,

@@ -9,7 +9,7 @@ use crate::glyph::{Glyph, digits_in, glyph_of, is_other};
 use lines::put::put;
 
 // How many bytes were stored, or why the text was refused.
-#[derive(Drop)]
+#[derive(Clone, Copy)]
 pub enum Decoded {
     // The bytes of the text stand at the start of the buffer, as far as it reaches: how many they are there.
     Bytes(usize),
@@ -19,14 +19,14 @@ pub enum Decoded {
 }
 
 // The first digit of a byte whose second one has not come.
-#[derive(Drop)]
+#[derive(Clone, Copy)]
 enum High {
     None,
     Some(u8),
 }
 
 // Where the next byte goes, and its first digit if that has come.
-#[derive(Drop)]
+#[derive(Clone, Copy)]
 struct Pen {
     at: usize,
     high: High,

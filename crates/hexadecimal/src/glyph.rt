@@ -4,7 +4,7 @@ ghost use Rattle.wire.specs.Flags.{when};
 ghost use Rattle.hexadecimal.specs.Glyph.{within, is_blank, glyph_of, digit_in, is_other};
 
 // A digit with its value, a blank, or anything else.
-#[derive(Drop)]
+#[derive(Clone, Copy)]
 pub enum Glyph {
     Digit(u8),
     Blank,

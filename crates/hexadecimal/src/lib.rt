@@ -1,3 +1,5 @@
 // Hexadecimal text: two digits for each byte, with blanks anywhere between the digits.
+#![tactic(auto)]
+
 pub mod decode;
 pub mod glyph;

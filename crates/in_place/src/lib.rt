@@ -1,10 +1,12 @@
 // The second stepping call: the job stands where the caller keeps it.
+#![tactic(auto)]
+
 ghost use Rattle.in_place.specs.Advanced.{StepsInPlace};
 
 use job::job::{Job, StepAnswer};
 
 // What a step tells, but for the job.
-#[derive(Drop)]
+#[derive(Clone, Copy)]
 pub struct Advanced {
     pub answer: StepAnswer,
     // How many stores the step made, and whether the job has none left.

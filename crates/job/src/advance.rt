@@ -9,7 +9,7 @@ use crate::next::make_stores;
 use form::good::is_size;
 
 // What a step answers, but for the bytes and the sizes of the job, which no step changes.
-#[derive(Drop)]
+#[derive(Clone, Copy)]
 pub struct Moved {
     // How many stores the job has made in all.
     pub made: usize,

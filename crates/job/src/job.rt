@@ -6,7 +6,7 @@ use crate::advance::advance;
 
 // A job is a value: whoever holds it may step it, keep it or drop it. It crosses to C as it is.
 #[repr(C)]
-#[derive(Drop)]
+#[derive(Clone, Copy)]
 pub struct Job {
     // The descriptor to be stored, and 0 after it.
     pub staged: [u8; 257],
@@ -18,7 +18,7 @@ pub struct Job {
 }
 
 // Whether a step was accepted; else it is refused with answer 8.
-#[derive(Drop)]
+#[derive(Clone, Copy)]
 pub enum StepAnswer {
     Accepted,
     // The slot has another size than at begin, or no begin and steps could give the job's numbers.
@@ -26,7 +26,7 @@ pub enum StepAnswer {
 }
 
 // What a step answers.
-#[derive(Drop)]
+#[derive(Clone, Copy)]
 pub struct Stepped {
     // The job after the step.
     pub job: Job,

@@ -3,7 +3,7 @@ use crate::draw::{fill, mode_of, next, seed};
 use lines::put::put;
 
 // What the core asks for, and whether the other bits are set.
-#[derive(Drop)]
+#[derive(Clone, Copy)]
 struct Shape {
     mode: u32,
     flag: u32,

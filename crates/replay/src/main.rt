@@ -4,6 +4,8 @@
 //
 // Asked by ten bytes on standard input, it shows one set from the inside instead: 1 for the digest after each case or 2 for every number
 // that goes into it; the set; the first case and the one after the last, four bytes each.
+#![tactic(auto)]
+
 mod body;
 mod digest;
 mod draw;

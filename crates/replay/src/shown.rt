@@ -6,7 +6,7 @@ use s2xv2::record::S2Xv2SatelliteDeliverySystem;
 use s2xv2::superframe::{OptionSuperframe, S2Xv2Superframe};
 
 // Two numbers.
-#[derive(Drop)]
+#[derive(Clone, Copy)]
 struct Pair(u32, u32);
 
 // A flag as a number.

@@ -128,7 +128,7 @@ pub(crate) fn walk(case: u32) -> [u32; 45] {
 }
 
 // Which faults a record has: places of list B by their numbers, and after them those of list A.
-#[derive(Drop)]
+#[derive(Clone, Copy)]
 struct Faults(u32, u32);
 
 impl Faults {

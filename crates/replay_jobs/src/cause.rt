@@ -2,7 +2,7 @@
 use crate::heads::{byte_of, size_of};
 
 // What leads from byte 0 to an offset: descriptors with none of ours, or with some; or none do.
-#[derive(Drop)]
+#[derive(Clone, Copy)]
 enum Lead {
     Without,
     With,

@@ -2,6 +2,8 @@
 // records and several starts a job that is stopped after every number of stores, made by one step or by two of a job
 // that is lent: what the slot then reads as and holds, and what a new job begun there leaves, goes into a digest; and
 // slots by draws. What is printed is what a plain model of docs/ANSWERS.md gives if all is right.
+#![tactic(auto)]
+
 mod again;
 mod cause;
 mod damage;

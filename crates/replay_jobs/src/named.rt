@@ -11,7 +11,7 @@ use s2xv2::record::S2Xv2SatelliteDeliverySystem;
 use s2xv2::superframe::{OptionSuperframe, S2Xv2Superframe};
 
 // The slots, named by their sizes or by what is wrong with them.
-#[derive(Drop)]
+#[derive(Clone, Copy)]
 enum Slot {
     Empty20,
     Empty21,
@@ -27,7 +27,7 @@ enum Slot {
 }
 
 // The kinds of record: one with no conditional part, one with every part that mode 5 has, and those that have a fault.
-#[derive(Drop)]
+#[derive(Clone, Copy)]
 enum Kind {
     Core,
     Full,
@@ -39,7 +39,7 @@ enum Kind {
 }
 
 // A slot's size; the tag, the length and the third byte of its first descriptor; and the tag of the one behind it.
-#[derive(Drop)]
+#[derive(Clone, Copy)]
 struct Layout(usize, u8, u8, u8, u8);
 
 // The layout of a slot.

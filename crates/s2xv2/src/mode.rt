@@ -4,7 +4,7 @@ ghost use Rattle.wire.specs.Flags.{only, is_one};
 ghost use Rattle.s2xv2.specs.Table144c.{mode_of, code_of, has_selector, has_timeslice, has_superframe};
 
 // The six codes that the table names, and all others.
-#[derive(Drop)]
+#[derive(Clone, Copy)]
 pub enum S2Xv2Mode {
     // Reserved for future use (0).
     Reserved0,
@@ -23,7 +23,7 @@ pub enum S2Xv2Mode {
 }
 
 // A row of the table: which of the parts that Table 144b has in some modes only are there.
-#[derive(Drop)]
+#[derive(Clone, Copy)]
 pub struct ModeRow {
     // The top bit of byte 6 is scrambling_sequence_selector.
     pub selector: bool,

@@ -7,7 +7,7 @@ use crate::superframe::OptionSuperframe;
 use answers::option::{OptionBool, OptionU8, OptionU32};
 
 // The record: the fields of a body in wire order.
-#[derive(Drop)]
+#[derive(Clone, Copy)]
 pub struct S2Xv2SatelliteDeliverySystem {
     // delivery_system_id, 32 bits.
     pub delivery_system_id: u32,

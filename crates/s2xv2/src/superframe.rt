@@ -6,7 +6,7 @@ ghost use Rattle.s2xv2.specs.Encode.{block_length};
 use answers::option::{OptionU8, OptionU32};
 
 // The fields of the block in wire order.
-#[derive(Drop)]
+#[derive(Clone, Copy)]
 pub struct S2Xv2Superframe {
     // SOSF_WH_sequence_number, 8 bits.
     pub sosf_wh_sequence_number: u8,
@@ -33,7 +33,7 @@ pub struct S2Xv2Superframe {
 }
 
 // A superframe block that may be absent.
-#[derive(Drop)]
+#[derive(Clone, Copy)]
 pub enum OptionSuperframe {
     None,
     Some(S2Xv2Superframe),

@@ -8,7 +8,7 @@ use crate::bytes::flag_at;
 use crate::present::Present;
 
 // Where each conditional part ends; one that is not there ends where the part before it does.
-#[derive(Drop)]
+#[derive(Clone, Copy)]
 pub struct Ends {
     pub stream: usize,
     pub scrambling: usize,

@@ -9,7 +9,7 @@ use crate::ends::Ends;
 use answers::answer::{Answer, Refusal};
 
 // A part whose end a body does not reach: its place in answer 1, and where it ends. Place 0 is none.
-#[derive(Drop)]
+#[derive(Clone, Copy)]
 struct Lack {
     place: u8,
     need: usize,

@@ -7,7 +7,7 @@ use s2xv2::mode::S2Xv2Mode;
 use wire::field::field;
 
 // Which of the conditional parts a core asks for.
-#[derive(Drop)]
+#[derive(Clone, Copy)]
 pub struct Present {
     // The input stream identifier.
     pub stream: bool,

@@ -1,4 +1,6 @@
 // Measures a record, and judges whether it can be written: every test that the writer makes, before its first store.
+#![tactic(auto)]
+
 ghost use Rattle.std.specs.Prelude.{◌≡◌, true, List, ℕ, ◌+◌, ◌≤◌};
 ghost use Rattle.wire.specs.Parts.{sizes};
 ghost use Rattle.answers.specs.Answer.{told};

@@ -1,4 +1,6 @@
 // A record as plain numbers: what crosses to C and Rust, and what the reader and the writer work on.
+#![tactic(auto)]
+
 pub mod asked;
 mod flags;
 pub mod input;

@@ -1,4 +1,6 @@
 // Reads the body of an S2Xv2 satellite delivery system descriptor.
+#![tactic(auto)]
+
 ghost use Rattle.core.specs.Prelude.{◌≡◌};
 ghost use Rattle.answers.specs.Answer.{told};
 ghost use Rattle.s2xv2.specs.Read.{read_told, read_of, tail_of};
@@ -23,7 +25,7 @@ mod superframe;
 mod whole;
 
 // What a body reads as: where its tail starts and the record, or why it is refused and the default record.
-#[derive(Drop)]
+#[derive(Clone, Copy)]
 pub struct Parsed {
     pub answer: Answer,
     pub body: S2Xv2SatelliteDeliverySystem,

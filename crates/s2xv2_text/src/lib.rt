@@ -1,5 +1,7 @@
 // The dump of a body, as text: a line for its length, one for each field on the wire in wire order, one for the tail's length; or the one
 // line of a body that is refused.
+#![tactic(auto)]
+
 ghost use Rattle.core.specs.Prelude.{◌≡◌};
 ghost use Rattle.answers.specs.Answer.{told};
 ghost use Rattle.s2xv2_text.specs.Dump.{dump_told, dumped_into};

@@ -1,6 +1,8 @@
 // What the types say, as facts of the logic. The theorems of demands 2 and 3 speak of lists of natural numbers, and ask two things of a record and its tail
 // that every program's record and tail have by their types: that its numbers are within them (`Held`), and that the tail's are bytes (`Bytes`). The two calls
 // here take any record and any bytes, and promise just that.
+#![tactic(auto)]
+
 ghost use Rattle.std.specs.Prelude.{◌≡◌, true, ◌^◌, ◌<◌, get_or};
 ghost use Rattle.wire.specs.Widths.{Bytes};
 ghost use Rattle.answers.specs.Options.{or_zero8, or_zero32};

@@ -1,4 +1,6 @@
 // Writes the body of an S2Xv2 satellite delivery system descriptor.
+#![tactic(auto)]
+
 ghost use Rattle.std.specs.Prelude.{◌≡◌, ◌++◌, ◌≤◌, length, drop};
 ghost use Rattle.answers.specs.Answer.{told};
 ghost use Rattle.s2xv2.specs.Encode.{encode, encoded_length};

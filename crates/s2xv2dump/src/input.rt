@@ -7,7 +7,7 @@ use hexadecimal::decode::Decoded;
 use libc::STDIN_FILENO;
 
 // How far the input has come, and whether all went well.
-#[derive(Drop)]
+#[derive(Clone, Copy)]
 pub struct Input {
     pub ok: bool,
     pub at: usize,

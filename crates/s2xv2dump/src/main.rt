@@ -1,5 +1,7 @@
 // Prints the text of a body, which it reads from a file or from standard input: at most 4,097 bytes. The body may stand
 // in a descriptor or in a slot, and the input may be hexadecimal text.
+#![tactic(auto)]
+
 use options::Options;
 
 mod input;

@@ -2,7 +2,7 @@
 use check::same;
 
 // What one word says.
-#[derive(Drop)]
+#[derive(Clone, Copy)]
 enum Word {
     Help,
     Hex,
@@ -15,7 +15,7 @@ enum Word {
 }
 
 // What all words together say.
-#[derive(Drop)]
+#[derive(Clone, Copy)]
 pub struct Options {
     pub help: bool,
     pub hex: bool,

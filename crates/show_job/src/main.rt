@@ -1,4 +1,6 @@
 // Two jobs, store by store: the slot after each, and what it reads as. docs/JOB.md shows what this program writes.
+#![tactic(auto)]
+
 ghost use Rattle.std.specs.Prelude.{◌<◌};
 
 use job::job::Job;

@@ -3,7 +3,7 @@ use answers::answer::Refusal;
 use s2xv2::record::S2Xv2SatelliteDeliverySystem;
 
 // What a slot holds, or why it cannot be told; also the answer of the call that empties one.
-#[derive(Drop)]
+#[derive(Clone, Copy)]
 pub enum SlotAnswer {
     // The slot holds a record: where its tail starts, counted from the slot's start, and how long it is.
     Accepted { place: usize, length: usize },
@@ -14,7 +14,7 @@ pub enum SlotAnswer {
 }
 
 // The answer, and the record that the slot holds: where there is none, the Rust's `Default`.
-#[derive(Drop)]
+#[derive(Clone, Copy)]
 pub struct SlotRead {
     pub answer: SlotAnswer,
     pub body: S2Xv2SatelliteDeliverySystem,

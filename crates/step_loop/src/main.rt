@@ -1,5 +1,7 @@
 // A job on a slot of 257 bytes, stepped by value one store at a time to its end, once for each byte of standard input: so the instructions of a step can
 // be counted, as the difference of two runs.
+#![tactic(auto)]
+
 use job::job::Job;
 use libc::{STDIN_FILENO, STDOUT_FILENO};
 use s2xv2::record::S2Xv2SatelliteDeliverySystem;

@@ -1,5 +1,5 @@
 // One byte, and the place where it goes.
-#[derive(Drop)]
+#[derive(Clone, Copy)]
 pub struct Store {
     pub place: usize,
     pub byte: u8,

@@ -122,8 +122,8 @@ number-be (suc n) v l h =
     let e : be (suc n) v ++ l ≡ be n (v / 256) ++ v % 256 ∷ l = ap (λ (k : List ℕ). k ++ l) (be-last n v) ∙ append_assoc (be n (v / 256)) (v % 256 ∷ []) l in
     let p : 2 ^ (suc n * 8) ≡ 2 ^ (n * 8) * 256 = pow8-suc n in
     let h' : v < 2 ^ (n * 8) * 256 = rw p at h in
-    rw e
-    (number-suc _ 0 n
+    ap (λ (k : List ℕ). number k 0 (suc n)) e
+    ∙ (number-suc (be n (v / 256) ++ v % 256 ∷ l) 0 n
     ∙ rw (number-be n (v / 256) (v % 256 ∷ l) (below (2 ^ (n * 8)) v h'), zero-add n, get_or_at (be n (v / 256)) (v % 256) l 0 n (length-be n (v / 256))) (omega arith))
 
 be-number : (s : List ℕ) (a n : ℕ) → Bytes s → a + n ≤ length s → be n (number s a n) ≡ take n (drop a s)
@@ -162,12 +162,12 @@ cut_up : List ℕ → ℕ → List ℕ
 cut_up [] n = []
 cut_up (w ∷ ws) n = n / 2 ^ total ws % 2 ^ w ∷ cut_up ws n
 
-cut_up : (s : List ℕ) (a o n : ℕ) (ws : List ℕ) → Bytes s → o + total ws ≡ n * 8 → cut_from s a o ws ≡ cut_up ws (number s a n)
+cut-whole : (s : List ℕ) (a o n : ℕ) (ws : List ℕ) → Bytes s → o + total ws ≡ n * 8 → cut_from s a o ws ≡ cut_up ws (number s a n)
 unfolding cut_up
-cut_up s a o n [] b h = refl
-cut_up s a o n (w ∷ ws) b h =
+cut-whole s a o n [] b h = refl
+cut-whole s a o n (w ∷ ws) b h =
     let e : n * 8 - (o + w) ≡ total ws = omega arith in
-    ap₂ ◌∷◌ (rw (← e) (bits_in s a o w n b (omega arith))) (cut_up s a (o + w) n ws b (omega arith))
+    ap₂ ◌∷◌ (rw (← e) (bits_in s a o w n b (omega arith))) (cut-whole s a (o + w) n ws b (omega arith))
 
 -- the values one after the other as one number, behind the number n
 behind : ℕ → List ℕ → List ℕ → ℕ
@@ -283,7 +283,7 @@ pack-be ws vs e f = pack-is 0 0 (size ws) ws vs (omega arith) (λ (_ : 0 % 8 ≡
 pub cut-pack : (s : List ℕ) (p : ℕ) (ws vs l : List ℕ) → total ws % 8 ≡ 0 → Fit ws vs → Bytes s → drop p s ≡ pack ws vs ++ l → cut s p ws ≡ vs
 cut-pack s p ws vs l e f b h =
     let lt : behind 0 ws vs < 2 ^ (size ws * 8) = rw (whole-bytes ws e) at (behind-lt 0 0 ws vs (omega arith) f) in
-    cut_up s p 0 (size ws) ws b (whole-bytes ws e)
+    cut-whole s p 0 (size ws) ws b (whole-bytes ws e)
     ∙ ap (cut_up ws) (number-drop s p (size ws) ∙ rw (h, pack-be ws vs e f) (number-be (size ws) (behind 0 ws vs) l lt))
     ∙ cut-behind 0 ws vs f
 
@@ -292,14 +292,14 @@ pub pack-cut : (s : List ℕ) (p : ℕ) (ws : List ℕ) → total ws % 8 ≡ 0 �
 pack-cut s p ws e b h =
     let n = number s p (size ws) in
     let lt : n < 2 ^ total ws = subst (λ (k : ℕ). number s p (size ws) < 2 ^ k) (sym (whole-bytes ws e) ∙ zero-add (total ws)) (number_lt s p (size ws) b) in
-    rw (cut_up s p 0 (size ws) ws b (whole-bytes ws e))
+    rw (cut-whole s p 0 (size ws) ws b (whole-bytes ws e))
     (pack-be ws (cut_up ws n) e (cut_fits n ws)
     ∙ ap (be (size ws)) (behind-cut 0 n ws ∙ rw (zero-mul, zero-add) (mod-eq_of_lt lt))
     ∙ be-number s p (size ws) b h)
 
 -- what was cut fits its widths
 pub fit_cut : (s : List ℕ) (p : ℕ) (ws : List ℕ) → total ws % 8 ≡ 0 → Bytes s → Fit ws (cut s p ws)
-fit_cut s p ws e b = rw (cut_up s p 0 (size ws) ws b (whole-bytes ws e)) (cut_fits (number s p (size ws)) ws)
+fit_cut s p ws e b = rw (cut-whole s p 0 (size ws) ws b (whole-bytes ws e)) (cut_fits (number s p (size ws)) ws)
 
 -- what was packed is bytes
 pub bytes-pack : (ws vs : List ℕ) → total ws % 8 ≡ 0 → Fit ws vs → Bytes (pack ws vs)

@@ -81,7 +81,7 @@ behind {s} {p} {l} ws vs e h =
 pub after : {s : List ℕ} {p : ℕ} {l : List ℕ} (ps : List Part) → Whole ps → Stands s p (bytes_of ps l) → Stands s (p + sizes ps) l
 unfolding Whole
 after {s} {p} {l} [] w h = rw (add-zero p) h
-after {s} {p} {l} (x ∷ ps) w h = rw (← add_assoc p (size x.widths) (sizes ps)) (after ps w.1 (behind x.widths x.values w.0 h))
+after {s} {p} {l} (x ∷ ps) w h = rw (← add_assoc p (size x.widths) (sizes ps)) (after {p = p + size x.widths} ps w.1 (behind x.widths x.values w.0 h))
 
 -- where a part stands at p and then l: what is cut, that there is room, and that l stands behind it
 pub record Found (s : List ℕ) (p : ℕ) (ws vs l : List ℕ) : Type 0 where
