@@ -3,7 +3,7 @@
 use Rattle.answers.proofs.plain.answer_out.Goals as goal
 
 pub returns-in-Accepted : goal.returns-in-Accepted
-returns-in-Accepted c = simp (c.saturated.ensures, c.answer-1.given.1)
+returns-in-Accepted c = simp (c.saturated.ensures, c.in-Accepted.is)
 
 pub returns-in-Refused : goal.returns-in-Refused
-returns-in-Refused c = simp (c.refusal_out.ensures, c.answer-in-Refused-1.given.1)
+returns-in-Refused c = simp (c.refusal_out.ensures, c.in-Refused.is)

@@ -3,28 +3,20 @@
 -- Assumes nothing.
 use Prim.Native.Nat.{ℕ, ◌+◌}
 use native.Mathlib.Omega.{arith}
-use borrow.Author.Rules.{rules}
 use Rattle.wire.specs.Flags.{only}
 use Rattle.wire.proofs.Tables.{at_each}
 use Rattle.s2xv2.specs.Table144c.{mode_of, has_selector, has_timeslice, has_superframe}
 use Rattle.s2xv2.proofs.Modes.{unnamed}
-use Rattle.s2xv2.proofs.mode.row_at.Statement.{statement}
-use Rattle.s2xv2.proofs.mode.row_at.Tie as tie
+use Rattle.s2xv2.proofs.mode.row_at.Goals as goal
 
 -- what the row of a code has to be
 abbrev rule : ℕ → ℕ
 rule code = only (has_selector (mode_of code)) 1 + only (has_timeslice (mode_of code)) 2 + only (has_superframe (mode_of code)) 4
 
-array-read-result : tie.Need-array-read-result
-array-read-result c = search rules
-
 -- the rows are those of the goal, and the test over them closes by `refl`
-returns : tie.Need-returns
+pub returns-then-code-lt16 : goal.returns-then-code-lt16
 unfolding mode_of
-returns c = let h = c.if1.true in simp (at_each rule)
+returns-then-code-lt16 c = let h = c.if-code-lt16.true in simp (at_each rule)
 
-returns-2 : tie.Need-returns-2
-returns-2 c = rw (unnamed c.before.args.code (omega arith))
-
-pub row-at-spec : {M : Type 1} → statement M
-row-at-spec = tie.close (tie.spec array-read-result returns returns-2)
+pub returns-else-code-lt16 : goal.returns-else-code-lt16
+returns-else-code-lt16 c = rw (unnamed c.args.code (omega arith))
