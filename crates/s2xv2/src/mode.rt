@@ -70,6 +70,7 @@ fn row_at(code: u8) -> u8
 }
 
 // What stands in the row of `Reserved`: codes from 6 to 15 have their own, and all others none of the parts, also those that have a mode of their own.
+#[tactic(auto, unfolding(crate::specs::Table144c::mode_of))]
 fn reserved_row(code: u8) -> u8
     ensures { result ≡ 0 }
 {
@@ -101,6 +102,7 @@ fn parts_of(row: u8) -> ModeRow
 
 impl S2Xv2Mode {
     // The mode of a code; every number has one.
+    #[tactic(auto, unfolding(crate::specs::Table144c::mode_of))]
     pub fn from_u8(v: u8) -> S2Xv2Mode
         ensures { result ≡ mode_of v }
     {
