@@ -1,9 +1,9 @@
 -- What one character of hexadecimal text stands for. Assumes nothing.
 -- `within`    a code lies in a range, both ends counted
--- `is_blank`   a space, a tab, a newline or a carriage return
--- `glyph_of`   a character as a digit, a blank or anything else
--- `digit_in`   the digit that it is, as a list of one, or of none
--- `is_other`   it is neither a digit nor a blank
+-- `is_blank`  a space, a tab, a newline or a carriage return
+-- `glyph_of`  a character as a digit, a blank or anything else
+-- `digit_in`  the digit that it is, as a list of one, or of none
+-- `is_other`  it is neither a digit nor a blank
 use Rattle.std.specs.Prelude.{ℕ, ◌-◌, List, [], ◌∷◌, Bool, true, false, ◌&&◌, ◌||◌, leb, eqb}
 use Rattle.wire.specs.Flags.{when}
 use Rattle.hexadecimal.specs.declared.glyph.Glyph.{Glyph}

@@ -1,7 +1,7 @@
 -- A text half read: what is stored, and the digit that waits for its second. Assumes nothing.
 -- `held_in`  that digit, as a list of one, or of none
--- `Low`     every number of a list is a digit's
--- `Moved`   some more digits have come, said of a buffer and a pen before and after
+-- `Low`      every number of a list is a digit's
+-- `Moved`    some more digits have come, said of a buffer and a pen before and after
 use Rattle.std.specs.Prelude.{ℕ, ◌<◌, ◌≡◌, List, [], ◌∷◌, ◌++◌}
 use Rattle.lines.specs.Out.{◌from◌, write}
 use Rattle.hexadecimal.specs.Text.{pairs_of}

@@ -1,11 +1,11 @@
 -- The lines of a dump. Assumes nothing.
 -- `codes`             a quoted text as the codes of its characters
 -- `space`, `newline`  two such texts
--- `line_of`            a name, a space, a number and a newline
--- `word_of`            a number with a space before it
+-- `line_of`           a name, a space, a number and a newline
+-- `word_of`           a number with a space before it
 -- `words`             that of each number of a list
--- `words_of`           these as one text
--- `refused_of`         the one line of a refused body
+-- `words_of`          these as one text
+-- `refused_of`        the one line of a refused body
 use Rattle.std.specs.Prelude.{ℕ, List, [], ◌∷◌}
 use Prim.Native.Char.{code}
 use Prim.Native.String.{String}

@@ -1,6 +1,6 @@
 -- Text that goes into a lent buffer from a place on, as far as the buffer reaches. Assumes nothing.
--- `Out`, `_from_`  a buffer and the place
--- `put_one`         both after one byte is put there
+-- `Out`, `◌from◌`  a buffer and the place
+-- `put_one`        both after one byte is put there
 -- `write`          both after a text is put there
 -- `Wrote`          a text was put there, said of a buffer and place before and after
 -- `joined`         one text after the other

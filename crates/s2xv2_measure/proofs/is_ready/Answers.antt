@@ -1,0 +1,25 @@
+-- `s2xv2_measure::is_ready` meets its contract: what both lists pass, and there is room for, is written.
+-- Assumes nothing.
+use Rattle.wire.proofs.Flags.{never}
+use Rattle.s2xv2.specs.Encode.{encoded_length}
+use Rattle.s2xv2_measure.proofs.Accepted.{ready}
+use Rattle.s2xv2_measure.proofs.is_ready.Goals as goal
+
+pub has_room-requires : goal.has_room-requires
+has_room-requires c = c.before.fits2.ensures.1 c.if-fits.true
+
+pub returns-then-fits : goal.returns-then-fits
+unfolding encoded_length
+returns-then-fits c =
+    let w = c.args.w.now in
+    let fits = c.before.before.fits2.ensures in
+    let taken = c.if-fits.true in record {
+      told = (λ e. ready _ c.args.reserved-tail.now 0 _ (fits.0 taken) (c.has_room.ensures.within e w, c.has_room.ensures.fits e w));
+      bits = (λ e. (fits.1 taken).packed);
+    }
+
+pub returns : goal.returns
+returns c = record {
+      told = (λ e. never e);
+      bits = (λ e. never e);
+    }

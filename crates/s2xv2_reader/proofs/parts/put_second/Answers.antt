@@ -1,0 +1,14 @@
+-- `s2xv2_reader::parts::put_second` meets its contract: the tests say where the bonds end, and the id is that of the body.
+-- Assumes nothing.
+use mathlib.Core.Path.{refl}
+use Rattle.s2xv2_reader.proofs.Ends.{gets, misses, unsaid}
+use Rattle.s2xv2_reader.proofs.parts.put_second.Goals as goal
+
+pub returns-then-s-p : goal.returns-then-s-p
+returns-then-s-p c = rw c.if-second.true (misses _ _ c.if-s-p.true, (unsaid, unsaid))
+
+pub returns-else-s-p : goal.returns-else-s-p
+returns-else-s-p c = rw c.if-second.true (gets _ _ c.if-s-p.false, ((λ _. simp c.be32.ensures), (λ _. refl)))
+
+pub returns-else-second : goal.returns-else-second
+returns-else-second c = rw c.if-second.false (gets _ _ c.requires.1, ((λ _. refl), (λ _. refl)))
