@@ -8,7 +8,7 @@ use native.Mathlib.Nat.{add-zero}
 use native.Mathlib.Omega.{arith}
 use lib.ListN.{length, get_or, drop}
 use Rattle.answers.proofs.Options.{is-selected}
-use Rattle.wire.specs.Flags.{when, bit, is_one, and, only}
+use Rattle.wire.specs.Flags.{when, bit, is_one, only}
 use Rattle.wire.specs.Widths.{cut, pack, Bytes}
 use Rattle.wire.specs.Parts.{Part, ◌⦂◌, bytes_of}
 use Rattle.wire.proofs.Cut.{fit_cut}

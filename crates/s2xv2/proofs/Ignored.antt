@@ -1,12 +1,12 @@
 -- What the wire does not carry of a record, nobody looks at: the answers of length and writer and the bytes written are those for what it carries (`carried`),
 -- of every record, refused or not. Each test of lists A and B, and each part's size, is the same of both.
 -- Assumes nothing.
-use mathlib.Core.Path.{◌≡◌, refl, sym, ap, ap₂, ◌∙◌}
+use mathlib.Core.Path.{◌≡◌, refl, ap, ap₂}
 use mathlib.Core.List.{List, [], ◌∷◌, ◌++◌}
 use mathlib.Core.Bool.{Bool, true, false}
-use Prim.Native.Nat.{ℕ, zero, suc, ◌+◌}
+use Prim.Native.Nat.{ℕ, zero, suc}
 use native.Mathlib.Omega.{arith}
-use lib.ListN.{length, drop, get_or}
+use lib.ListN.{length, drop}
 use lib.Dec.{eqb}
 use borrow.Author.Tests.{eqb-true}
 use Rattle.wire.specs.Flags.{when, and, not, only}
@@ -14,7 +14,7 @@ use Rattle.wire.specs.Parts.{Part, ◌⦂◌, sizes, bytes_of}
 use Rattle.s2xv2.specs.Table144b as T
 use Rattle.answers.specs.Options.{is_some_bool, selected}
 use Rattle.answers.specs.Answer.{number_of}
-use Rattle.s2xv2.specs.Encode.{top_bit, core_values, nibble_of, id_parts, scrambling_parts, bond_parts, superframe_parts, stream_of, scrambling_of, timeslice_of, bond_of, superframe_of, parts_of, encode, encoded_length}
+use Rattle.s2xv2.specs.Encode.{top_bit, nibble_of, id_parts, scrambling_parts, bond_parts, superframe_parts, parts_of, encode, encoded_length}
 use Rattle.wire.specs.Count.{less_one}
 use Rattle.answers.specs.Tests.{first_from}
 use Rattle.s2xv2.specs.ListA.{parts_a, superframe_a, inconsistency}

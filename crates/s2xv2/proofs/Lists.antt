@@ -1,17 +1,16 @@
 -- Laws of lists A and B: a record that A passes is what its mode and flags say, and one that B passes too fits the wire.
 -- Assumes nothing.
-use mathlib.Core.Path.{◌≡◌, refl, sym, ap, ◌∙◌}
+use mathlib.Core.Path.{◌≡◌, refl, sym}
 use mathlib.Core.List.{List, [], ◌∷◌, ◌++◌}
 use mathlib.Core.Bool.{Bool, true, false}
-use Prim.Native.Nat.{ℕ, zero, suc, ◌+◌, ◌^◌, ◌<◌}
+use Prim.Native.Nat.{ℕ, zero, suc, ◌^◌, ◌<◌}
 use native.Mathlib.Omega.{arith}
-use native.Mathlib.Nat.{add-zero}
-use lib.ListN.{length, get_or}
+use lib.ListN.{get_or}
 use lib.Dec.{eqb, ltb}
-use borrow.Author.Tests.{ltb-false, leb-false, ne_eqb}
+use borrow.Author.Tests.{ltb-false}
 use Rattle.answers.proofs.Tests.{Clear}
-use Rattle.wire.proofs.Wide.{narrow, narrow-if}
-use Rattle.wire.specs.Flags.{when, and, not, differ}
+use Rattle.wire.proofs.Wide.{narrow}
+use Rattle.wire.specs.Flags.{and, not, differ}
 use Rattle.wire.specs.Widths.{Fit, wide}
 use Rattle.wire.specs.Parts.{◌⦂◌, AllFit}
 use Rattle.wire.proofs.Parts.{fit_append}
@@ -22,7 +21,6 @@ use Rattle.answers.specs.Options.{is_some_bool, is_some8, is_some32, selected, o
 use Rattle.s2xv2.specs.OptionSuperframe.{is_some_superframe}
 use Rattle.s2xv2.specs.Encode.{top_bit, core_values, byte_parts, scrambling_parts, bond_parts, superframe_end_values, plan_parts, superframe_parts, stream_of, scrambling_of, timeslice_of, bond_of, superframe_of, parts_of}
 use Rattle.wire.specs.Count.{less_one}
-use Rattle.answers.specs.Tests.{first_from}
 use Rattle.s2xv2.specs.ListA.{misnamed, in_superframe, list_a}
 use Rattle.s2xv2.specs.ListB.{superframe_b, list_b}
 use Rattle.s2xv2.proofs.Modes.{unnamed}

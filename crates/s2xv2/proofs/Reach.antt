@@ -7,17 +7,16 @@ use mathlib.Core.Bool.{Bool, true, false}
 use Prim.Native.Nat.{ℕ, ◌≤◌, ◌<◌}
 use native.Mathlib.Omega.{arith}
 use lib.ListN.{length, drop, get_or}
-use lib.Dec.{ltb, eqb}
-use borrow.Author.Tests.{lt-ltb, le-ltb, ltb-true, ltb-false, eq-eqb}
-use Rattle.answers.proofs.Answers.{refused-number, refused}
+use lib.Dec.{ltb}
+use borrow.Author.Tests.{lt-ltb, le-ltb, ltb-true, ltb-false}
+use Rattle.answers.proofs.Answers.{refused-number}
 use Rattle.answers.proofs.Short.{Reaches, reaches-told, told-reaches}
-use Rattle.wire.specs.Flags.{when, only}
+use Rattle.wire.specs.Flags.{only}
 use Rattle.answers.specs.Answer.{numbers, saturated, number_of}
 use Rattle.s2xv2.specs.Default.{default_record}
 use Rattle.s2xv2.specs.Read.{Present, present_in, has_second, bond_size, bond_end, has_plan, superframe_size, plan_size, superframe_end, timeslice_end, body_size, needs, short_of, read_told, read_of, record_in, tail_of}
-use Rattle.answers.specs.Short.{Need, short_told}
+use Rattle.answers.specs.Short.{short_told}
 use Rattle.answers.specs.declared.answer.Refusal.{Refusal}
-use Rattle.answers.specs.declared.answer.Refusal.TheVariants as R
 
 -- ---- the ends are in order
 

@@ -5,9 +5,9 @@
 -- `superframe_a`    tests 8 and 9, of a superframe block that may be absent
 -- `list_a`          all tests in their order
 -- `inconsistency`  the place of the first that holds, or 0 for a consistent record
-use Rattle.std.specs.Prelude.{ℕ, suc, List, [], ◌∷◌, ◌++◌, Bool, false, eqb, ltb}
+use Rattle.std.specs.Prelude.{ℕ, List, [], ◌∷◌, ◌++◌, Bool, false, eqb, ltb}
 use Rattle.answers.specs.Tests.{first_of}
-use Rattle.wire.specs.Flags.{when, and, not, differ}
+use Rattle.wire.specs.Flags.{and, not, differ}
 use Rattle.s2xv2.specs.Table144c.{has_selector, has_timeslice, has_superframe}
 use Rattle.answers.specs.Options.{is_some_bool, is_some8, is_some32, selected}
 use Rattle.s2xv2.specs.OptionSuperframe.{is_some_superframe}

@@ -5,7 +5,7 @@
 -- `superframe_b`  tests 15 to 22, of a superframe block that may be absent
 -- `list_b`        all tests in their order
 -- `unwritable`   the place of the first that holds, or 0 if none does
-use Rattle.std.specs.Prelude.{ℕ, ◌^◌, List, [], ◌∷◌, ◌++◌, Bool, eqb, leb}
+use Rattle.std.specs.Prelude.{ℕ, List, [], ◌∷◌, ◌++◌, Bool, eqb}
 use Rattle.wire.specs.Widths.{wide}
 use Rattle.wire.specs.Flags.{and, not}
 use Rattle.s2xv2.specs.Table144c.{code_of}

@@ -40,7 +40,7 @@
 -- `Reading`         an answer in numbers, with the record shown
 -- `read_of`          that of the reader for a body
 -- `tail_of`          the tail of a body
-use Rattle.std.specs.Prelude.{ℕ, ◌+◌, List, [], ◌∷◌, ◌++◌, Bool, length, drop, get_or, eqb, ltb}
+use Rattle.std.specs.Prelude.{ℕ, ◌+◌, List, [], ◌∷◌, ◌++◌, Bool, length, drop, eqb, ltb}
 use Rattle.answers.specs.Short.{Need, ◌to◌, short_told}
 use Rattle.wire.specs.Flags.{when, is_one, and, only}
 use Rattle.wire.specs.Widths.{size, cut, give, read}

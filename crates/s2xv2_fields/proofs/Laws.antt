@@ -1,6 +1,6 @@
 -- Lines that are written in turn: `joined-append`, of lists of lines one after the other, and `and_then`, which says it of what is written.
 -- Assumes nothing.
-use Rattle.core.specs.Prelude.{◌≡◌, ℕ, List, [], ◌∷◌, ◌++◌}
+use Rattle.std.specs.Prelude.{◌≡◌, ℕ, List, [], ◌∷◌, ◌++◌}
 use mathlib.Core.Path.{refl, sym, ◌∙◌, ap}
 use mathlib.Core.List.{append_assoc}
 use Rattle.lines.specs.Out.{Out, write, joined, Wrote}

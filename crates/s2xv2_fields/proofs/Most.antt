@@ -1,7 +1,7 @@
 -- How long the lines of a record can get: `core-most` 424 bytes with the line of the body's length, `parts-most` 256, `superframe-most` 362.
 -- The rest are their parts.
 -- Assumes nothing.
-use Rattle.core.specs.Prelude.{ℕ, ◌+◌, eqb, List, length}
+use Rattle.std.specs.Prelude.{ℕ, ◌+◌, eqb, List, length}
 use native.Mathlib.Omega.{arith}
 use Rattle.s2xv2.specs.declared.record.S2Xv2SatelliteDeliverySystem.{S2Xv2SatelliteDeliverySystem}
 use Rattle.s2xv2.specs.declared.superframe.OptionSuperframe.{OptionSuperframe}

@@ -1,5 +1,5 @@
 // The lines of the superframe block.
-ghost use Rattle.core.specs.Prelude.{take, drop};
+ghost use Rattle.std.specs.Prelude.{take, drop};
 ghost use Rattle.lines.specs.Out.{◌from◌, Wrote, joined};
 ghost use Rattle.s2xv2_fields.specs.Fields.{line32 as Fields·line32, nibble_line, block_lines, superframe_text};
 

@@ -1,7 +1,7 @@
 -- What a superframe block that is there stores is what is asked of it: its numbers (`block-numbers`) and its bytes (`block-bytes`). `bit-mod` says that a bit
 -- is itself, taken for a flag.
 -- Assumes nothing.
-use Rattle.core.specs.Prelude.{◌≡◌, ℕ, ◌+◌, ◌%◌, Bool, true, false, List, get_or, set}
+use Rattle.std.specs.Prelude.{◌≡◌, ℕ, ◌+◌, ◌%◌, Bool, true, false, List, get_or, set}
 use mathlib.Core.Path.{refl, sym}
 use native.Mathlib.Nat.{div-one}
 use native.Mathlib.Omega.{arith}

@@ -2,7 +2,7 @@
 -- what is known at the core (`at-core`) is known `Behind` each part whose end is reached (`ends_at`, `passes`), and a body stops where it is not (`stops`).
 -- What all parts store is what is asked of them: the numbers (`chain-numbers`) and the bytes (`chain-bytes`).
 -- Assumes nothing.
-use Rattle.core.specs.Prelude.{◌≡◌, ℕ, ◌+◌, ◌<◌, ◌≤◌, List, length, get_or, set}
+use Rattle.std.specs.Prelude.{◌≡◌, ℕ, ◌+◌, ◌<◌, ◌≤◌, List, length, get_or, set}
 use mathlib.Core.Path.{refl, ap, ◌∙◌}
 use native.Mathlib.Omega.{arith}
 use lib.ListN.{length-set}

@@ -2,7 +2,7 @@
 -- starts (`stays`); the other way round an end that is not 0 is reached (`reached`), and one that is 0 is not (`missed`). Where 0 is
 -- answered nothing is said of an array (`unsaid`). `most`, `bond-least`, `bond-most` and `block-least` bound how long a part is.
 -- Assumes nothing.
-use Rattle.core.specs.Prelude.{◌≡◌, ℕ, ◌+◌, ◌<◌, ◌≤◌, Bool, true, false, ltb, List}
+use Rattle.std.specs.Prelude.{◌≡◌, ℕ, ◌+◌, ◌<◌, ◌≤◌, Bool, true, false, ltb, List}
 use mathlib.Core.Path.{refl}
 use native.Mathlib.Omega.{arith}
 use native.Mathlib.Nat.{add-zero}

@@ -1,8 +1,7 @@
 -- The contracts of `parse`, `read_into`, `parse_into` and `reserved_tail` leave no choice.
 -- Assumes nothing.
-use Rattle.core.specs.Prelude.{◌≡◌, ℕ, List}
+use Rattle.std.specs.Prelude.{◌≡◌, ℕ, List}
 use mathlib.Core.Path.{sym, ap, ap₂, ◌∙◌}
-use Rattle.answers.specs.Answer.{told}
 use Rattle.s2xv2.specs.Read.{Reading, read_of, tail_of}
 use Rattle.answers.specs.declared.answer.Answer.{Answer}
 use Rattle.s2xv2.specs.declared.record.S2Xv2SatelliteDeliverySystem.{S2Xv2SatelliteDeliverySystem}

@@ -1,7 +1,7 @@
 -- The core of a body and the parts behind it fill both arrays, so that what was there before does not matter, and what is there then is the record's: where it
 -- ends (`whole-end`), its numbers (`whole_numbers`) and its bytes (`whole-bytes`), of what each call stored.
 -- Assumes nothing.
-use Rattle.core.specs.Prelude.{◌≡◌, ℕ, ◌/◌, ◌%◌, Bool, true, false, List, length, get_or}
+use Rattle.std.specs.Prelude.{◌≡◌, ℕ, ◌/◌, ◌%◌, Bool, true, false, List, length, get_or}
 use mathlib.Core.Path.{refl, ap, subst, ◌∙◌}
 use native.Mathlib.Nat.{div-one}
 use Rattle.wire.specs.Flags.{bit, is_one, when, and}

@@ -1,6 +1,6 @@
 -- A part from q to the end is what is left behind q (`rest`).
 -- Assumes nothing.
-use Rattle.core.specs.Prelude.{◌≡◌, ℕ, ◌-◌, List, length, take, drop}
+use Rattle.std.specs.Prelude.{◌≡◌, ℕ, ◌-◌, List, length, take, drop}
 use native.Mathlib.Nat.{le_refl}
 use lib.ListN.{length-drop}
 use lib.Seq.{take_all}

@@ -1,6 +1,6 @@
 -- A list of a known length, element by element (`spread`), so that a store at a numeral computes.
 -- Assumes nothing.
-use Rattle.core.specs.Prelude.{◌≡◌, ℕ, zero, suc, List, [], ◌∷◌, length, get_or, drop}
+use Rattle.std.specs.Prelude.{◌≡◌, ℕ, zero, suc, List, [], ◌∷◌, length, get_or, drop}
 use mathlib.Core.Path.{refl, ap}
 use native.Mathlib.Omega.{arith}
 

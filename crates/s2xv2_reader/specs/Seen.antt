@@ -1,7 +1,7 @@
 -- What a caller sees of a reading. Assumes nothing.
 -- `seen`   of `Parsed`, the numbers of its answer and its record
 -- `end_in`  where the tail starts, by the numbers of an answer
-use Rattle.core.specs.Prelude.{ℕ, List, ◌==◌, slice_index}
+use Rattle.std.specs.Prelude.{ℕ, List, ◌==◌, slice_index}
 use Rattle.wire.specs.Flags.{when}
 use Rattle.answers.specs.Answer.{told, number_of}
 use Rattle.s2xv2.specs.Read.{Reading}

@@ -16,7 +16,7 @@
 -- `named`         the parts that the stored bytes of a core say are there
 -- `rest_numbers`   the numbers of all parts behind the core
 -- `rest_bytes`     their bytes
-use Rattle.core.specs.Prelude.{◌≡◌, ℕ, ◌/◌, ◌%◌, Bool, List, set, ◌≢◌, nat_lt, slice_index, slice_set}
+use Rattle.std.specs.Prelude.{◌≡◌, ℕ, ◌/◌, ◌%◌, Bool, List, set, ◌≢◌, nat_lt, slice_index, slice_set}
 use Rattle.wire.specs.Bits.{bits}
 use Rattle.wire.specs.Flags.{bit, is_one, when}
 use Rattle.wire.specs.Widths.{give}

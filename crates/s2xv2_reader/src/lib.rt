@@ -1,7 +1,7 @@
 // Reads the body of an S2Xv2 satellite delivery system descriptor.
 #![tactic(auto)]
 
-ghost use Rattle.core.specs.Prelude.{◌≡◌};
+ghost use Rattle.std.specs.Prelude.{◌≡◌};
 ghost use Rattle.answers.specs.Answer.{told};
 ghost use Rattle.s2xv2.specs.Read.{read_told, read_of, tail_of};
 ghost use Rattle.answers.specs.Plain.{answer_out};
@@ -19,7 +19,7 @@ use s2xv2_plain::input::of_plain;
 use s2xv2_plain::output::clear;
 
 mod bytes;
-mod core;
+mod core_part;
 mod parts;
 mod superframe;
 mod whole;

@@ -1,6 +1,6 @@
 // The parts of a body between its core and its superframe block, stored into a lent record, with zeros for a part that is not there. Each function answers
 // where its part ends, or 0 where the body does not reach that.
-ghost use Rattle.core.specs.Prelude.{◌≡◌, ◌+◌, ◌<◌, ◌≤◌, true, length, slice_set};
+ghost use Rattle.std.specs.Prelude.{◌≡◌, ◌+◌, ◌<◌, ◌≤◌, true, length, slice_set};
 ghost use Rattle.wire.specs.Flags.{only};
 ghost use Rattle.answers.specs.Options.{or_zero8, or_zero32};
 ghost use Rattle.s2xv2.specs.Read.{stream_id_at, reserved6_at, index_at, has_second, bond_size, count_if, second_id_at};

@@ -1,5 +1,5 @@
 // The superframe block of a body, stored into a lent record.
-ghost use Rattle.core.specs.Prelude.{◌≡◌, ◌+◌, ◌<◌, ◌≤◌, length};
+ghost use Rattle.std.specs.Prelude.{◌≡◌, ◌+◌, ◌<◌, ◌≤◌, length};
 ghost use Rattle.wire.specs.Flags.{only};
 ghost use Rattle.wire.specs.Widths.{cut};
 ghost use Rattle.s2xv2.specs.Table144b as T;

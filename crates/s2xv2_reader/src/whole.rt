@@ -1,11 +1,11 @@
 // A whole body, stored into a lent record.
-ghost use Rattle.core.specs.Prelude.{◌≡◌, ◌≤◌, length};
+ghost use Rattle.std.specs.Prelude.{◌≡◌, ◌≤◌, length};
 ghost use Rattle.s2xv2.specs.Read.{superframe_end, body_size, record_in};
 ghost use Rattle.s2xv2_plain.specs.Output.{numbers_of, bytes_of};
 ghost use Rattle.s2xv2_reader.specs.Stored.{reach, Stored, named, rest_numbers, rest_bytes};
 
 use crate::bytes::byte;
-use crate::core::{put_asked, put_fields, put_numbers};
+use crate::core_part::{put_asked, put_fields, put_numbers};
 use crate::parts::{put_bonds, put_byte, put_index};
 use crate::superframe::put_superframe;
 use s2xv2_plain::places;

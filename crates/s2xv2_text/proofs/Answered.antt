@@ -1,6 +1,6 @@
 -- The text of a body by what the reader answers: `accepted-text` and `refused-text`; `tail_within`: an accepted body's tail starts inside it.
 -- Assumes nothing.
-use Rattle.core.specs.Prelude.{◌≡◌, ℕ, ◌-◌, ◌≤◌, List, [], ◌∷◌, length}
+use Rattle.std.specs.Prelude.{◌≡◌, ℕ, ◌-◌, ◌≤◌, List, [], ◌∷◌, length}
 use mathlib.Core.Path.{sym, ◌∙◌, ap}
 use lib.ListN.{length-drop}
 use Rattle.answers.proofs.Answers.{refused-number}

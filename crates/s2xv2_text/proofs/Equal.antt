@@ -1,6 +1,6 @@
 -- The contract of `dump` leaves no choice: the numbers of an answer lose nothing, and the buffer is given by an equation.
 -- Assumes nothing.
-use Rattle.core.specs.Prelude.{◌≡◌, ℕ, List}
+use Rattle.std.specs.Prelude.{◌≡◌, ℕ, List}
 use mathlib.Core.Path.{sym, ◌∙◌}
 use Rattle.answers.specs.Answer.{told}
 use Rattle.answers.specs.declared.answer.Answer.{Answer}

@@ -1,6 +1,6 @@
 -- How long the text of a body can get: `dump-most`, at most 1,067 bytes, so that a buffer of 2,048 holds it. The rest are its parts.
 -- Assumes nothing.
-use Rattle.core.specs.Prelude.{ℕ, ◌≤◌, eqb, ltb, List, [], ◌∷◌, length}
+use Rattle.std.specs.Prelude.{ℕ, ◌≤◌, eqb, ltb, List, [], ◌∷◌, length}
 use native.Mathlib.Omega.{arith}
 use Rattle.answers.specs.Short.{Need, short_told}
 use Rattle.s2xv2.specs.Read.{needs, present_in, body_size, short_of, read_told, read_of, tail_of}

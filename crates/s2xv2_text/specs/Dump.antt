@@ -4,7 +4,7 @@
 -- `room`        how many bytes the buffer needs
 -- `dump_told`    what the call answers, in numbers
 -- `dumped_into`  the buffer afterwards
-use Rattle.core.specs.Prelude.{ℕ, List, [], ◌∷◌, ◌++◌, length, drop, ◌==◌, nat_lt}
+use Rattle.std.specs.Prelude.{ℕ, List, [], ◌∷◌, ◌++◌, length, drop, ◌==◌, nat_lt}
 use Rattle.wire.specs.Flags.{when}
 use Rattle.s2xv2.specs.Read.{read_told, read_of, tail_of}
 use Rattle.answers.specs.Answer.{numbers, told, number_of}

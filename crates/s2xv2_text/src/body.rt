@@ -8,7 +8,7 @@ use answers::answer::{Answer, Refusal};
 use lines::line::{line, words};
 use lines::put::{copy, put};
 use s2xv2::record::S2Xv2SatelliteDeliverySystem;
-use s2xv2_fields::core::core;
+use s2xv2_fields::core_part::core;
 use s2xv2_fields::parts::parts;
 use s2xv2_fields::superframe::superframe;
 

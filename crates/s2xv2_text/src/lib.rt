@@ -2,7 +2,7 @@
 // line of a body that is refused.
 #![tactic(auto)]
 
-ghost use Rattle.core.specs.Prelude.{◌≡◌};
+ghost use Rattle.std.specs.Prelude.{◌≡◌};
 ghost use Rattle.answers.specs.Answer.{told};
 ghost use Rattle.s2xv2_text.specs.Dump.{dump_told, dumped_into};
 

@@ -7,10 +7,10 @@ pub returns-then-end-eq0 : goal.returns-then-end-eq0
 returns-then-end-eq0 c =
     let s = c.args.sel.now in
     let e = c.read_into-end.ensures in
-    simp (c.parse_answer.ensures, c.of_plain-body.ensures, e.1.0, e.1.1, shown-back s)
+    simp (c.parse_answer.ensures, c.of_plain-body.ensures, e.numbers, e.bytes, shown-back s)
 
 pub returns : goal.returns
 returns c =
     let s = c.args.sel.now in
     let e = c.read_into-end.ensures in
-    simp (tells-end s _ e.0 c.if-end-eq0.false, c.of_plain-body.ensures, e.1.0, e.1.1, shown-back s)
+    simp (tells-end s _ e.end c.if-end-eq0.false, c.of_plain-body.ensures, e.numbers, e.bytes, shown-back s)

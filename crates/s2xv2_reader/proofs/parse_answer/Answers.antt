@@ -1,9 +1,9 @@
 -- `s2xv2_reader::parse_answer` meets its contract: the laws of the answer say what is told of a body that is too long, and of any other.
 -- Assumes nothing.
-use Rattle.core.specs.Prelude.{[], ◌∷◌, length}
+use Rattle.std.specs.Prelude.{[], ◌∷◌, length}
 use mathlib.Core.Path.{sym, ◌∙◌}
 use Rattle.answers.specs.Short.{short_told}
-use Rattle.s2xv2.specs.Read.{present_in, body_size, least_total, short_of, rules as parts}
+use Rattle.s2xv2.specs.Read.{present_in, body_size, least_total, short_of, needs as parts}
 use Rattle.s2xv2.proofs.Reach.{told-long, told-within}
 use Rattle.s2xv2_reader.proofs.parse_answer.Goals as goal
 

@@ -6,10 +6,12 @@ use Rattle.s2xv2_reader.proofs.Shown.{tells-end}
 use Rattle.s2xv2_reader.proofs.parse_into.Goals as goal
 
 pub returns-then-end-eq0 : goal.returns-then-end-eq0
-returns-then-end-eq0 c = (c.answer_out.ensures ∙ ap answer_out c.parse_answer.ensures, c.read_into-end.ensures.1)
+returns-then-end-eq0 c =
+    let e = c.read_into-end.ensures in
+    record { answer = c.answer_out.ensures ∙ ap answer_out c.parse_answer.ensures; numbers = e.numbers; bytes = e.bytes }
 
 pub returns : goal.returns
 returns c =
     let s = c.args.sel.now in
     let e = c.read_into-end.ensures in
-    (c.answer_out-2.ensures ∙ ap answer_out (tells-end s _ e.0 c.if-end-eq0.false), e.1)
+    record { answer = c.answer_out-2.ensures ∙ ap answer_out (tells-end s _ e.end c.if-end-eq0.false); numbers = e.numbers; bytes = e.bytes }

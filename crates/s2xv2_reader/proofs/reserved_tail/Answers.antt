@@ -1,6 +1,6 @@
 -- `s2xv2_reader::reserved_tail` meets its contract: a start that is not 0 is what the reader tells, and 0 is a refusal's, which has no tail.
 -- Assumes nothing.
-use Rattle.core.specs.Prelude.{◌≡◌, []}
+use Rattle.std.specs.Prelude.{◌≡◌, []}
 use mathlib.Core.Path.{sym, ◌∙◌}
 use Rattle.s2xv2.specs.Read.{tail_of}
 use Rattle.s2xv2.proofs.Reach.{accepted-tail}
@@ -10,8 +10,8 @@ use Rattle.s2xv2_reader.proofs.reserved_tail.Goals as goal
 
 pub returns-then-start-eq0 : goal.returns-then-start-eq0
 returns-then-start-eq0 c =
-    let s = c.before.before.before.before.args.sel.now in
-    let e : [] ≡ tail_of s = simp (tells_none s (sym c.before.if1.true ∙ c.before.before.tail-start.ensures)) in
+    let s = c.args.sel.now in
+    let e : [] ≡ tail_of s = simp (tells_none s (sym c.if-start-eq0.true ∙ c.tail_start-start.ensures)) in
     e
 
 pub slice_bounds-result-count : goal.slice_bounds-result-count

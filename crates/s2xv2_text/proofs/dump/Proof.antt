@@ -1,6 +1,6 @@
 -- `s2xv2_text::dump` meets its contract: the test picks the case, and a buffer with the room holds the longest text.
 -- Assumes nothing.
-use Rattle.core.specs.Prelude.{◌≤◌, [], ◌∷◌, length}
+use Rattle.std.specs.Prelude.{◌≤◌, [], ◌∷◌, length}
 use mathlib.Core.Path.{ap}
 use native.Mathlib.Omega.{arith}
 use borrow.Author.Rules.{rules}

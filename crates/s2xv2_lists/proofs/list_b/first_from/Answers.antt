@@ -1,6 +1,6 @@
 -- `s2xv2_lists::list_b::first_from` meets its contract. The invariant: none of the first i tests holds, so that the place is one of those that are left.
 -- Assumes nothing.
-use Rattle.std.proofs.Common.{◌≡◌, ℕ, ◌+◌, ◌-◌, ◌<◌, Bool, false, List, length, get_or, drop, sym, refl, ap, ◌∙◌, arith, drop_of_length-le, drop-cons, rules}
+use Rattle.std.proofs.Common.{◌≡◌, ℕ, ◌+◌, ◌<◌, Bool, false, List, length, get_or, drop, sym, refl, ap, ◌∙◌, arith, drop_of_length-le, drop-cons, rules}
 use native.Mathlib.Numerals.{unary_clauses}
 use Rattle.answers.specs.Tests.{first_from}
 use Rattle.s2xv2_lists.proofs.list_b.first_from.Goals as goal

@@ -7,6 +7,6 @@ use Rattle.s2xv2_plain.proofs.output.clear.Goals as goal
 pub returns : goal.returns
 unfolding default_record default_superframe
 returns c = record {
-      numbers = refl;
-      bytes = refl;
-    }
+  numbers = refl;
+  bytes = refl;
+}

@@ -1,6 +1,6 @@
 -- `s2xv2_reader::parts::put_bonds` meets its contract: the flag of the header is what asks for a second id.
 -- Assumes nothing.
-use Rattle.core.specs.Prelude.{◌≡◌, ◌+◌, ◌<◌, length}
+use Rattle.std.specs.Prelude.{◌≡◌, ◌+◌, ◌<◌, length}
 use mathlib.Core.Path.{refl, ◌∙◌}
 use native.Mathlib.Omega.{arith}
 use lib.ListN.{length-set}
@@ -13,7 +13,7 @@ returns-then-s-p c =
     let a = c.args in
     let s = a.s.now in
     let h : length s < a.p + bond_size (has_second s a.p) = omega (arith, bond-least (has_second s a.p), c.if-s-p.true) in
-    rw c.if-there.true (misses _ _ h, (unsaid, unsaid))
+    rw c.if-there.true (record { end = misses _ _ h; numbers = unsaid; bytes = unsaid })
 
 pub shape_of-w-else-s-p : goal.shape_of-w-else-s-p
 shape_of-w-else-s-p c = c.w-1.given ∙ simp length-set
@@ -27,7 +27,7 @@ returns-else-s-p c =
     let e = c.put_second.ensures in
     let byte = c.byte-header.ensures.0 in
     let d : c.flag.result ≡ has_second a.s.now a.p = simp byte at c.flag.ensures in
-    rw (c.if-there.true, ← d) (e.0, ((λ z. simp c.be32.ensures at (e.1.0 z)), (λ z. simp byte at (e.1.1 z))))
+    rw (c.if-there.true, ← d) (record { end = e.end; numbers = (λ z. simp c.be32.ensures at (e.numbers z)); bytes = (λ z. simp byte at (e.bytes z)) })
 
 pub returns-else-there : goal.returns-else-there
-returns-else-there c = rw c.if-there.false (stays _ _ c.requires.1, ((λ _. refl), (λ _. refl)))
+returns-else-there c = rw c.if-there.false (record { end = stays _ _ c.requires.1; numbers = (λ _. refl); bytes = (λ _. refl) })

@@ -39,6 +39,6 @@ shape_of-b c = simp length-set
 pub returns : goal.returns
 unfolding default_superframe
 returns c = record {
-      numbers = refl;
-      bytes = refl;
-    }
+  numbers = refl;
+  bytes = refl;
+}

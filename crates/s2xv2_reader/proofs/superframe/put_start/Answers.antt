@@ -20,8 +20,7 @@ pub shape_of-b : goal.shape_of-b
 shape_of-b c = simp length-set
 
 pub returns : goal.returns
-returns c = (
-  simp (c.low20-2.ensures, c.low20.ensures),
-  simp (c.picked-2.ensures, c.picked.ensures, c.octet.ensures, c.byte.ensures.0, c.byte-selectors.ensures.0),
-
-)
+returns c = record {
+  numbers = simp (c.low20-2.ensures, c.low20.ensures);
+  bytes = simp (c.picked-2.ensures, c.picked.ensures, c.octet.ensures, c.byte.ensures.0, c.byte-selectors.ensures.0);
+}

@@ -10,10 +10,4 @@ returns c =
     let bs = c.args.b.now in
     let d1 = simp (c.byte-v6.ensures.0, c.byte-v5.ensures.0, v4) at c.put_fields.ensures in
     let d2 = simp (c.byte-v6.ensures.0, v4) at c.put_asked.ensures in
-    let r = c.put_rest.ensures in (
-      whole-end s bs _ _ c.requires.2 d1 d2 _ r.0,
-      (
-        (λ z. whole_numbers s bs _ _ c.requires.2 d1 d2 c.args.w.now _ _ c.requires.1 c.put_numbers.ensures (r.1.0 z)),
-        (λ z. whole-bytes s bs _ _ c.requires.2 d1 d2 _ (r.1.1 z)),
-      ),
-    )
+    let r = c.put_rest.ensures in record { end = whole-end s bs _ _ c.requires.2 d1 d2 _ r.end; numbers = (λ z. whole_numbers s bs _ _ c.requires.2 d1 d2 c.args.w.now _ _ c.requires.1 c.put_numbers.ensures (r.numbers z)); bytes = (λ z. whole-bytes s bs _ _ c.requires.2 d1 d2 _ (r.bytes z)) }

@@ -1,6 +1,6 @@
 -- `s2xv2_text::body::numbers` meets its contract: the first numbers of the array, as many as there are, are those that the refusal tells.
 -- Assumes nothing.
-use Rattle.core.specs.Prelude.{◌≡◌, ℕ, ◌-◌, length, take}
+use Rattle.std.specs.Prelude.{◌≡◌, ℕ, ◌-◌, length, take}
 use mathlib.Core.Path.{ap, ◌∙◌}
 use native.Mathlib.Omega.{arith}
 use Rattle.answers.specs.Answer.{numbers, told_now}

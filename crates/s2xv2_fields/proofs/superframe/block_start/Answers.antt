@@ -1,0 +1,13 @@
+-- `s2xv2_fields::superframe::block_start` meets its contract: one text after the other.
+-- Assumes nothing.
+use Rattle.s2xv2_fields.specs.Fields.{block_lines}
+use Rattle.lines.proofs.Laws.{then4}
+use Rattle.s2xv2_fields.proofs.superframe.block_start.Goals as goal
+
+pub returns : goal.returns
+unfolding block_lines
+returns c =
+    then4 c.line8-at.ensures
+    c.flag-at.ensures
+    c.flag-at-2.ensures
+    c.line8.ensures
