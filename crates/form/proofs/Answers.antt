@@ -5,13 +5,13 @@ use mathlib.Core.Path.{◌≡◌, refl, sym, ap, ◌∙◌}
 use mathlib.Core.List.{List, [], ◌∷◌, map}
 use mathlib.Core.Option.{Option, none, some}
 use mathlib.Core.Bool.{Bool, true, false, not, cond, ◌&&◌, ◌||◌, and-false, false≢true}
-use Prim.Native.Nat.{ℕ, suc, ◌-◌, ◌≤◌}
+use Prim.Native.Nat.{ℕ, suc, ◌≤◌}
 use native.Mathlib.Decide.{dec_le}
 use native.Mathlib.Omega.{arith}
 use borrow.Author.Tests.{eqb-true, lt-leb}
 use lib.ListN.{length}
 use lib.Dec.{leb, eqb}
-use Rattle.form.specs.Envelope.{tag, stuffing_tag}
+use Rattle.form.specs.Envelope.{stuffing_tag}
 use Rattle.form.specs.Walk.{Descriptor, Walk, whole, stops, walk, descriptors, stop}
 use Rattle.form.specs.Form.{all, count, good_size, is_stuffing, is_ours, good_form, ours, breaks_from, breaks, judged, form_of}
 use Rattle.form.specs.Bytewise.{Upto, Cause}

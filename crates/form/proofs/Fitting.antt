@@ -4,7 +4,7 @@
 use mathlib.Core.Path.{◌≡◌, refl, sym, ap, ◌∙◌}
 use mathlib.Core.List.{List, [], ◌∷◌}
 use mathlib.Core.Bool.{Bool, true, false, not, ◌&&◌, ◌||◌, and-false}
-use Prim.Native.Nat.{ℕ, zero, suc, ◌+◌, ◌-◌, ◌≤◌}
+use Prim.Native.Nat.{ℕ, zero, suc, ◌+◌, ◌≤◌}
 use native.Mathlib.Omega.{arith}
 use borrow.Author.Tests.{eq-eqb, ne_eqb, eqb-true, le-leb}
 use lib.ListN.{length, get_or, take, drop, length-drop}
@@ -25,9 +25,9 @@ module _ (d : Descriptor) where
   abbrev tests : List Bool
   tests = eqb d.tag tag ∷ leb 1 (length d.content) ∷ eqb (byte_at d.content 0) extension ∷ []
 
-  is_ours : Ours d → is_ours d ≡ true
+  ours-is : Ours d → is_ours d ≡ true
   unfolding is_ours
-  is_ours f = each_all tests (omega (arith, to-tests))
+  ours-is f = each_all tests (omega (arith, to-tests))
 
   pub ours-facts : is_ours d ≡ true → Ours d
   unfolding is_ours
@@ -89,7 +89,7 @@ module _ (s : List ℕ) (at : ℕ) (whole : behind s at ≤ length s) where
       first_of (suc k) (x ∷ u) h = refl
 
   pub here-ours : byte_at s at ≡ tag → 1 ≤ byte_at s (at + 1) → byte_at s (at + 2) ≡ extension → is_ours (descriptor_at s at) ≡ true
-  here-ours t l x = is_ours (descriptor_at s at) (t, (rw content-length l, content-first l ∙ x))
+  here-ours t l x = ours-is (descriptor_at s at) (t, (rw content-length l, content-first l ∙ x))
 
   pub here-not : (OursThere s at → ⊥) → is_ours (descriptor_at s at) ≡ false
   here-not h =

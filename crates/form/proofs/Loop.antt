@@ -1,9 +1,9 @@
 -- The walk as a loop: descriptors lead to the place that it has come to, and the place of ours is in hand, n for none. One law for each way through a turn.
 -- Assumes nothing.
-use mathlib.Core.Path.{◌≡◌, sym, ap, subst, ◌∙◌}
+use mathlib.Core.Path.{◌≡◌, sym, subst, ◌∙◌}
 use mathlib.Core.List.{List}
 use mathlib.Core.Option.{Option, none, some}
-use mathlib.Core.Bool.{Bool, true, false, not, cond, false≢true}
+use mathlib.Core.Bool.{true, false, cond, false≢true}
 use Prim.Native.Nat.{ℕ, ◌+◌, ◌≤◌, ◌<◌}
 use native.Mathlib.Decide.{dec_le, ℕ_discrete}
 use native.Mathlib.Omega.{arith}
@@ -23,11 +23,6 @@ in_hand n o = cond (ltb o n) (some o) none
 
 pub loop-start : (s : List ℕ) → Upto s 0 (in_hand (length s) (length s))
 loop-start s = rw (le-ltb (length s) (length s) (omega arith)) U.start
-
--- what the code says of a test that it turns round
-pub flipped : (b c : Bool) → not b ≡ c → b ≡ not c
-flipped true c e = ap not e
-flipped false c e = ap not e
 
 module _ (s : List ℕ) (at o : ℕ) (u : Upto s at (in_hand (length s) o)) where
   -- on

@@ -29,11 +29,12 @@ split : (x : Descriptor) (ds : List Descriptor) → AllGood (x ∷ ds) → (is_s
 split x ds g = both (is_stuffing x || is_ours x) (all (map (λ d. is_stuffing d || is_ours d) ds)) g
 
 -- one with our tag is ours
-is_ours : (d : Descriptor) → is_stuffing d || is_ours d ≡ true → d.tag ≡ tag → is_ours d ≡ true
-is_ours d e t = let z : d.tag ≡ stuffing_tag → ⊥ = omega arith in rw (ne_eqb d.tag stuffing_tag z) at e
+ours-is : (d : Descriptor) → is_stuffing d || is_ours d ≡ true → d.tag ≡ tag → is_ours d ≡ true
+ours-is d e t = let z : d.tag ≡ stuffing_tag → ⊥ = omega arith in rw (ne_eqb d.tag stuffing_tag z) at e
 
 -- ours are counted
 counted : (ds : List Descriptor) (d : Descriptor) → Memᴰ d ds → is_ours d ≡ true → 1 ≤ count (map is_ours ds)
+counted [] d m o = absurd (Memᴰ.not-nil m)
 counted (x ∷ ds) d (Memᴰ.head e) o = rw (← e, o) (omega arith)
 counted (x ∷ ds) d (Memᴰ.tail m) o = by (is_ours x) (counted ds d m o)
   where
@@ -42,13 +43,15 @@ counted (x ∷ ds) d (Memᴰ.tail m) o = by (is_ours x) (counted ds d m o)
     by false l = l
 
 member-ours : (ds : List Descriptor) (d : Descriptor) → AllGood ds → Memᴰ d ds → d.tag ≡ tag → is_ours d ≡ true
-member-ours (x ∷ ds) d g (Memᴰ.head e) t = is_ours d (subst (λ (y : Descriptor). is_stuffing y || is_ours y ≡ true) (sym e) (split x ds g).0) t
+member-ours [] d g m t = absurd (Memᴰ.not-nil m)
+member-ours (x ∷ ds) d g (Memᴰ.head e) t = ours-is d (subst (λ (y : Descriptor). is_stuffing y || is_ours y ≡ true) (sym e) (split x ds g).0) t
 member-ours (x ∷ ds) d g (Memᴰ.tail m) t = member-ours ds d (split x ds g).1 m t
 
 among : (ds : List Descriptor) (d : Descriptor) → AllGood ds → count (map is_ours ds) ≤ 1 → Memᴰ d ds → d.tag ≡ tag → first_ours ds ≡ some d.offset
 unfolding first_ours
+among [] d g c m t = absurd (Memᴰ.not-nil m)
 among (x ∷ ds) d g c (Memᴰ.head e) t =
-    let o : is_ours x ≡ true = is_ours x (split x ds g).0 (sym (ap (λ (y : Descriptor). y.tag) e) ∙ t) in
+    let o : is_ours x ≡ true = ours-is x (split x ds g).0 (sym (ap (λ (y : Descriptor). y.tag) e) ∙ t) in
     rw o (ap (λ (y : Descriptor). some y.offset) (sym e))
 among (x ∷ ds) d g c (Memᴰ.tail m) t = by (is_ours x) (among ds d (split x ds g).1) c
   where

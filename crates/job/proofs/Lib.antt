@@ -2,5 +2,4 @@ pub mod Lists
 pub mod Fairness
 pub mod Places
 pub mod Advancing
-pub mod Lent
 pub mod Equal
