@@ -18,7 +18,7 @@ returns-then-tail-room c =
 pub returns : goal.returns
 returns c =
     let t = c.tail_len.ensures in
-    let p = c.parts_len.ensures.0 in
+    let p = c.parts_len.ensures.size in
     let need = c.parts_len.result + c.tail_len.result in
     let room = c.args.room in
     let held = both_hold (leb need 4096) (leb need room) in record {

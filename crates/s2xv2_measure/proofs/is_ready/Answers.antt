@@ -6,20 +6,20 @@ use Rattle.s2xv2_measure.proofs.Accepted.{ready}
 use Rattle.s2xv2_measure.proofs.is_ready.Goals as goal
 
 pub has_room-requires : goal.has_room-requires
-has_room-requires c = c.before.fits2.ensures.1 c.if-fits.true
+has_room-requires c = c.fits.ensures.bits c.if-fits.true
 
 pub returns-then-fits : goal.returns-then-fits
 unfolding encoded_length
 returns-then-fits c =
     let w = c.args.w.now in
-    let fits = c.before.before.fits2.ensures in
+    let fits = c.fits.ensures in
     let taken = c.if-fits.true in record {
-      told = (λ e. ready _ c.args.reserved-tail.now 0 _ (fits.0 taken) (c.has_room.ensures.within e w, c.has_room.ensures.fits e w));
-      bits = (λ e. (fits.1 taken).packed);
+      told = (λ e. ready _ c.args.reserved_tail.now 0 _ (fits.lists taken) (c.has_room.ensures.within e w, c.has_room.ensures.fits e w));
+      bits = (λ e. (fits.bits taken).packed);
     }
 
 pub returns : goal.returns
 returns c = record {
-      told = (λ e. never e);
-      bits = (λ e. never e);
-    }
+  told = (λ e. never e);
+  bits = (λ e. never e);
+}

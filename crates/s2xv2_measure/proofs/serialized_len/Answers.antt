@@ -26,29 +26,29 @@ returns-then-place-ne0 c =
 
 pub parts_len-requires : goal.parts_len-requires
 parts_len-requires c =
-    let p = c.before.before.to-plain.ensures.0 in
-    subst Counted (sym (ap (λ (p : Plain). p.bytes) p)) (counted_of c.before.before.before.before.before.before.args.r)
+    let p = c.to_plain-plain.ensures.plain in
+    subst Counted (sym (ap (λ (p : Plain). p.bytes) p)) (counted_of c.args.r)
 
 pub returns-then-need-gt4096 : goal.returns-then-need-gt4096
 unfolding length_told encoded_length
 returns-then-need-gt4096 c =
-    let i = start.before.before.inconsistency.ensures in
-    let t = length start.before.before.before.before.args.reserved-tail.now in
+    let i = c.inconsistency-place.ensures in
+    let t = length c.args.reserved_tail.now in
     let p = c.parts_len in
-    let s = p.ensures.0 start.to-plain.result.numbers ∙ ap (λ (r : S2Xv2SatelliteDeliverySystem). sizes (parts_of r)) start.to-plain.ensures.1 in
+    let s = p.ensures.size c.to_plain-plain.result.numbers ∙ ap (λ (r : S2Xv2SatelliteDeliverySystem). sizes (parts_of r)) c.to_plain-plain.ensures.back in
     let e = ap (λ (k : ℕ). p.result + k) c.tail_len.ensures in
     let h : 4096 < p.result + t = omega (arith, e, c.if-need-gt4096.true) in
-    simp (sym i ∙ start.before.if1.false, sym s, lt-ltb _ _ h)
+    simp (sym i ∙ c.if-place-ne0.false, sym s, lt-ltb _ _ h)
     (ap (λ (n : ℕ). 2 ∷ n ∷ []) (c.saturated.ensures ∙ ap saturated e ∙ capped_same p.result t))
 
 pub returns : goal.returns
 unfolding length_told encoded_length
 returns c =
-    let i = start.before.before.inconsistency.ensures in
-    let t = length start.before.before.before.before.args.reserved-tail.now in
+    let i = c.inconsistency-place.ensures in
+    let t = length c.args.reserved_tail.now in
     let p = c.parts_len in
     let k = c.tail_len in
-    let s = p.ensures.0 start.to-plain.result.numbers ∙ ap (λ (r : S2Xv2SatelliteDeliverySystem). sizes (parts_of r)) start.to-plain.ensures.1 in
+    let s = p.ensures.size c.to_plain-plain.result.numbers ∙ ap (λ (r : S2Xv2SatelliteDeliverySystem). sizes (parts_of r)) c.to_plain-plain.ensures.back in
     let e : p.result + k.result ≡ p.result + t = omega (arith, k.ensures, c.if-need-gt4096.false) in
     let h : p.result + t ≤ 4096 = omega (arith, e, c.if-need-gt4096.false) in
-    simp (sym i ∙ start.before.if1.false, sym s, le-ltb _ _ h) (ap (λ (n : ℕ). 0 ∷ n ∷ []) e)
+    simp (sym i ∙ c.if-place-ne0.false, sym s, le-ltb _ _ h) (ap (λ (n : ℕ). 0 ∷ n ∷ []) e)

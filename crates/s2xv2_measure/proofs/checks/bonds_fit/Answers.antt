@@ -19,9 +19,9 @@ returns-then-less_one-lt2 c =
 
 pub returns-else-less_one-lt2 : goal.returns-else-less_one-lt2
 returns-else-less_one-lt2 c = let no = sym (le-ltb _ _ c.if-less_one-lt2.false) in record {
-      agree = (λ e. never (no ∙ e));
-      fit = (λ e. never (no ∙ e));
-    }
+  agree = (λ e. never (no ∙ e));
+  fit = (λ e. never (no ∙ e));
+}
 
 pub returns-else-bond-eq1 : goal.returns-else-bond-eq1
 returns-else-bond-eq1 c =

@@ -11,8 +11,8 @@ use Rattle.s2xv2_measure.proofs.length.parts_len.Goals as goal
 pub returns : goal.returns
 returns c =
     let b = c.args.b.now in
-    let k = c.requires.plan in (
-      (λ ws. omega (
+    let k = c.requires.plan in record {
+      size = (λ ws. omega (
         arith,
         c.superframe_len.ensures,
         block_size ws b k,
@@ -21,6 +21,6 @@ returns c =
         c.scrambling_len.ensures,
         c.byte_len.ensures,
         simp (is-8, is-selected) at (parts-size (meant ws b)),
-      )),
-      omega arith,
-    )
+      ));
+      small = omega arith;
+    }
