@@ -1,6 +1,6 @@
 -- The empty call. Assumes nothing.
 -- `empty_told`  its answer in numbers, for a slot of so many bytes
--- `emptied`    the slot afterwards
+-- `emptied`     the slot afterwards
 use Rattle.std.specs.Prelude.{ℕ, List, length}
 use Rattle.wire.specs.Flags.{when}
 use Rattle.answers.specs.Answer.{numbers}

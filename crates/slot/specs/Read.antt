@@ -1,14 +1,14 @@
 -- What a slot reads as. Assumes nothing.
--- `Shown`       what is shown: an answer, a record and a tail
--- `without`     that with no record and no tail
+-- `Shown`        what is shown: an answer, a record and a tail
+-- `without`      that with no record and no tail
 -- `shows_empty`  that of a slot with none of ours
 -- `body_of`      the body of the one of ours, by the form of the slot
 -- `body_in`      the body that a slot holds
--- `placed`      the reader's answer, with the tail's place in the slot
+-- `placed`       the reader's answer, with the tail's place in the slot
 -- `shows_body`   that of a slot with a body in it
 -- `shows_form`   that of any slot, by its form
--- `shown`       what a slot reads as
--- `ReadsAs`     a slot is in good form, and reads so
+-- `shown`        what a slot reads as
+-- `ReadsAs`      a slot is in good form, and reads so
 use Rattle.std.specs.Prelude.{ℕ, ◌+◌, ◌-◌, ◌≡◌, true, List, [], length, get_or, eqb}
 use Rattle.wire.specs.Flags.{when}
 use Rattle.answers.specs.Answer.{numbers, number_of}
