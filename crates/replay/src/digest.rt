@@ -1,23 +1,24 @@
 // A digest of what the library answers. Where 2^32 is added to it, each number that goes into it is printed too.
+use std::io;
 
 // A number on a line of its own.
-pub(crate) fn show(v: u32) {
-    io::print_decimal(1, v as u64);
-    io::write_all(1, b"\n");
+pub(crate) fn show(rt: &impl Print, v: u32) -> io::Result<()> {
+    println!(rt; "{v}")
 }
 
 // The bytes of a part, each on a line of its own.
-fn show_bytes(bytes: &[u8]) {
+fn show_bytes(rt: &impl Print, bytes: &[u8]) -> io::Result<()> {
     let mut i = 0;
     while i < bytes.len() {
-        show_byte(bytes[i]);
+        show_byte(rt, bytes[i])?;
         i += 1;
     }
+    Ok(())
 }
 
 // A byte on a line of its own.
-fn show_byte(b: u8) {
-    show(b as u32);
+fn show_byte(rt: &impl Print, b: u8) -> io::Result<()> {
+    show(rt, b as u32)
 }
 
 // Whether each number is printed.
@@ -36,28 +37,28 @@ fn after(d: u64, value: u32) -> u64 {
 }
 
 // The digest with one number more.
-pub(crate) fn put(d: u64, v: u32) -> u64 {
+pub(crate) fn put(rt: &impl Print, d: u64, v: u32) -> io::Result<u64> {
     if shows(d) {
-        show(v);
+        show(rt, v)?;
     }
-    after(d, lines::digest::put(value(d), v))
+    Ok(after(d, lines::digest::put(value(d), v)))
 }
 
 // The digest with all bytes of a part more.
-pub(crate) fn put_bytes(d: u64, bytes: &[u8]) -> u64 {
+pub(crate) fn put_bytes(rt: &impl Print, d: u64, bytes: &[u8]) -> io::Result<u64> {
     if shows(d) {
-        show_bytes(bytes);
+        show_bytes(rt, bytes)?;
     }
-    after(d, lines::digest::put_bytes(value(d), bytes))
+    Ok(after(d, lines::digest::put_bytes(value(d), bytes)))
 }
 
 // The digest with all numbers of a list more.
-pub(crate) fn put_all(start: u64, values: &[u32]) -> u64 {
+pub(crate) fn put_all(rt: &impl Print, start: u64, values: &[u32]) -> io::Result<u64> {
     let mut d = start;
     let mut i = 0;
     while i < values.len() {
-        d = put(d, values[i]);
+        d = put(rt, d, values[i])?;
         i += 1;
     }
-    d
+    Ok(d)
 }

@@ -16,23 +16,24 @@ mod shown;
 mod told;
 mod values;
 
+use std::io;
+use std::io::Read;
 use wire::number::be32;
 
 // Prints a text and a number.
-fn word(text: &[u8], n: u32) {
-    io::write_all(1, text);
-    io::print_decimal(1, n as u64);
+fn word(rt: &impl Print, text: &str, n: u32) -> io::Result<()> {
+    print!(rt; "{text}{n}")
 }
 
 // The name of a set.
-fn print_name(set: u32) {
+fn print_name(rt: &impl Print, set: u32) -> io::Result<()> {
     match set {
-        0 => io::write_all(1, b"cuts"),
-        1 => io::write_all(1, b"bits"),
-        2 => io::write_all(1, b"bodies"),
-        3 => io::write_all(1, b"walk"),
-        _ => io::write_all(1, b"records"),
-    };
+        0 => print!(rt; "cuts"),
+        1 => print!(rt; "bits"),
+        2 => print!(rt; "bodies"),
+        3 => print!(rt; "walk"),
+        _ => print!(rt; "records"),
+    }
 }
 
 // The cell of its answer.
@@ -41,45 +42,47 @@ fn cell_of(ran: u64) -> usize {
 }
 
 // Prints a case with a name: its number, its answer, its digest.
-fn print_named(kind: &[u8], k: u32, t: &[u32; 6], ran: u64) {
-    word(kind, k % 64 + 1);
-    io::write_all(1, b":");
-    told::print(t);
-    word(b"; ", digest::value(ran));
-    io::write_all(1, b"\n");
+fn print_named(rt: &impl Print, kind: &str, k: u32, t: &[u32; 6], ran: u64) -> io::Result<()> {
+    word(rt, kind, k % 64 + 1)?;
+    print!(rt; ":")?;
+    told::print(rt, t)?;
+    word(rt, "; ", digest::value(ran))?;
+    println!(rt; "")
 }
 
 // Runs and prints a body with a name.
-fn named_body(k: u32, body: &mut [u8], out: &mut [u8]) {
+fn named_body(rt: &impl Print, k: u32, body: &mut [u8], out: &mut [u8]) -> io::Result<()> {
     let made = named::body(k as usize, body);
     let t = run::answer_to_made(body, made);
-    print_named(b"body ", k, &t, run::run_made(0, body, made, out));
+    let ran = run::run_made(rt, 0, body, made, out)?;
+    print_named(rt, "body ", k, &t, ran)
 }
 
 // Runs and prints a record with a name.
-fn named_record(k: u32, out: &mut [u8], tail: &[u8]) {
+fn named_record(rt: &impl Print, k: u32, out: &mut [u8], tail: &[u8]) -> io::Result<()> {
     let v = named::record(k as usize);
-    let ran = run::run_case(0, &v, tail, out);
-    print_named(b"record ", k, &run::written_to(&v, tail, out), ran);
+    let ran = run::run_case(rt, 0, &v, tail, out)?;
+    print_named(rt, "record ", k, &run::written_to(&v, tail, out), ran)
 }
 
 // Runs the cases with a name.
-fn named_cases(body: &mut [u8], out: &mut [u8], tail: &[u8]) {
+fn named_cases(rt: &impl Print, body: &mut [u8], out: &mut [u8], tail: &[u8]) -> io::Result<()> {
     let mut k = 0;
     while k < 28 {
-        named_body(k, body, out);
+        named_body(rt, k, body, out)?;
         k += 1;
     }
-    named_records(out, tail);
+    named_records(rt, out, tail)
 }
 
 // Runs the records with a name.
-fn named_records(out: &mut [u8], tail: &[u8]) {
+fn named_records(rt: &impl Print, out: &mut [u8], tail: &[u8]) -> io::Result<()> {
     let mut k = 0;
     while k < 43 {
-        named_record(k, out, tail);
+        named_record(rt, k, out, tail)?;
         k += 1;
     }
+    Ok(())
 }
 
 // Counts one answer.
@@ -91,44 +94,52 @@ fn count(counts: &mut [u32; 43], cell: usize) {
 
 // All cases of a set from 0 on.
 fn count_all(
+    rt: &impl Print,
     set: u32,
     n: u32,
     counts: &mut [u32; 43],
     body: &mut [u8],
     out: &mut [u8],
     tail: &[u8],
-) -> u32 {
+) -> io::Result<u32> {
     let mut d: u64 = 0;
     let mut case = 0;
     while case < n {
-        d = run::run(set, case, d % 8_589_934_592, body, out, tail);
+        d = run::run(rt, set, case, d % 8_589_934_592, body, out, tail)?;
         count(counts, cell_of(d));
         case += 1;
     }
-    digest::value(d)
+    Ok(digest::value(d))
 }
 
 // Runs a set and prints its counts and its digest.
-fn whole_set(set: u32, body: &mut [u8], out: &mut [u8], tail: &[u8]) {
+fn whole_set(
+    rt: &impl Print,
+    set: u32,
+    body: &mut [u8],
+    out: &mut [u8],
+    tail: &[u8],
+) -> io::Result<()> {
     let mut counts = [0u32; 43];
     let n = run::cases(set);
-    let d = count_all(set, n, &mut counts, body, out, tail);
-    print_name(set);
-    word(b" ", n);
-    io::write_all(1, b"\n");
-    told::print_counts(&counts);
-    word(b"digest ", d);
-    io::write_all(1, b"\n");
+    let d = count_all(rt, set, n, &mut counts, body, out, tail)?;
+    print_name(rt, set)?;
+    word(rt, " ", n)?;
+    println!(rt; "")?;
+    told::print_counts(rt, &counts)?;
+    word(rt, "digest ", d)?;
+    println!(rt; "")
 }
 
 // Runs all cases.
-fn all(body: &mut [u8], out: &mut [u8], tail: &[u8]) {
-    named_cases(body, out, tail);
+fn all(rt: &impl Print, body: &mut [u8], out: &mut [u8], tail: &[u8]) -> io::Result<()> {
+    named_cases(rt, body, out, tail)?;
     let mut set = 0;
     while set < 5 {
-        whole_set(set, body, out, tail);
+        whole_set(rt, set, body, out, tail)?;
         set += 1;
     }
+    Ok(())
 }
 
 // The four bytes of a question from `at` on, as a number.
@@ -141,35 +152,46 @@ fn number(q: &[u8; 10], at: usize) -> u32 {
 }
 
 // Prints the digest, unless the numbers are shown.
-fn show_digest(numbers: bool, ran: u64) {
+fn show_digest(rt: &impl Print, numbers: bool, ran: u64) -> io::Result<()> {
     if !numbers {
-        digest::show(digest::value(ran));
+        digest::show(rt, digest::value(ran))?;
     }
+    Ok(())
 }
 
 // The digest after each case, or the numbers of all of them.
-fn show(numbers: bool, set: u32, from: u32, to: u32, body: &mut [u8], out: &mut [u8], tail: &[u8]) {
+fn show(
+    rt: &impl Print,
+    numbers: bool,
+    set: u32,
+    from: u32,
+    to: u32,
+    body: &mut [u8],
+    out: &mut [u8],
+    tail: &[u8],
+) -> io::Result<()> {
     let mut d: u64 = if numbers { 4_294_967_296 } else { 0 };
     let mut case = from;
     while case < to {
-        d = run::run(set, case, d % 8_589_934_592, body, out, tail);
-        show_digest(numbers, d);
+        d = run::run(rt, set, case, d % 8_589_934_592, body, out, tail)?;
+        show_digest(rt, numbers, d)?;
         case += 1;
     }
+    Ok(())
 }
 
 // Runs all cases, or shows what it is asked for.
-fn main() {
+fn main(rt: HostRuntime) -> io::Result<()> {
     let mut body = [0u8; 4097];
     let mut out = [0u8; 4200];
     let mut tail = [0u8; 65560];
     draw::fill(&mut tail, 65_560, draw::seed(0));
     let mut q = [0u8; 10];
-    let n = io::read_full(0, &mut q);
-    if n == 10 {
+    if rt.stdin().read_exact(&mut q).is_ok() {
         let from = number(&q, 2);
         let to = number(&q, 6);
         show(
+            &rt,
             q[0] == 2,
             be32(0, 0, 0, q[1]),
             from,
@@ -177,8 +199,8 @@ fn main() {
             &mut body,
             &mut out,
             &tail,
-        );
+        )
     } else {
-        all(&mut body, &mut out, &tail);
+        all(&rt, &mut body, &mut out, &tail)
     }
 }

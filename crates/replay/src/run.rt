@@ -6,6 +6,7 @@ use crate::shown::put_record;
 use crate::told::{cell, put_told, told};
 use crate::values::room;
 use crate::{body, values};
+use std::io;
 
 // A number as a size.
 fn size(v: u32) -> usize {
@@ -20,22 +21,25 @@ fn answer_to(body: &[u8]) -> [u32; 6] {
 }
 
 // The record that the reader shows.
-fn put_body(d: u64, body: &[u8]) -> u64 {
+fn put_body(rt: &impl Print, d: u64, body: &[u8]) -> io::Result<u64> {
     let read = s2xv2_reader::parse(body);
     let record = read.body;
-    put_record(d, record)
+    put_record(rt, d, record)
 }
 
 // The tail: its length and its bytes.
-fn put_tail(d: u64, body: &[u8]) -> u64 {
+fn put_tail(rt: &impl Print, d: u64, body: &[u8]) -> io::Result<u64> {
     let tail = s2xv2_reader::reserved_tail(body);
-    put_bytes(put(d, (tail.len() % 4_294_967_296) as u32), tail)
+    let d = put(rt, d, (tail.len() % 4_294_967_296) as u32)?;
+    put_bytes(rt, d, tail)
 }
 
 // All that the reader says of a body.
-fn put_reading(d: u64, body: &[u8]) -> u64 {
+fn put_reading(rt: &impl Print, d: u64, body: &[u8]) -> io::Result<u64> {
     let t = answer_to(body);
-    put_tail(put_body(put_told(d, &t), body), body)
+    let d = put_told(rt, d, &t)?;
+    let d = put_body(rt, d, body)?;
+    put_tail(rt, d, body)
 }
 
 // What was read is written back.
@@ -49,9 +53,10 @@ fn back(body: &[u8], out: &mut [u8]) -> [u32; 6] {
 }
 
 // The answer of the writing back, and the buffer.
-fn put_back(d: u64, body: &[u8], out: &mut [u8]) -> u64 {
+fn put_back(rt: &impl Print, d: u64, body: &[u8], out: &mut [u8]) -> io::Result<u64> {
     let t = back(body, out);
-    put_bytes(put_told(d, &t), out)
+    let d = put_told(rt, d, &t)?;
+    put_bytes(rt, d, out)
 }
 
 // The digest, with the answer's cell above it.
@@ -61,29 +66,41 @@ fn with_cell(d: u64, t: &[u32; 6]) -> u64 {
 }
 
 // A body is read, and where it is accepted written back into a buffer that is `spare` bytes longer.
-fn run_body(start: u64, body: &[u8], spare: usize, out: &mut [u8]) -> u64 {
+fn run_body(
+    rt: &impl Print,
+    start: u64,
+    body: &[u8],
+    spare: usize,
+    out: &mut [u8],
+) -> io::Result<u64> {
     let t = answer_to(body);
-    let d = put_reading(start, body);
+    let d = put_reading(rt, start, body)?;
     if t[1] != 0 {
-        return with_cell(d, &t);
+        return Ok(with_cell(d, &t));
     }
     if 4 < spare {
-        return with_cell(d, &t);
+        return Ok(with_cell(d, &t));
     }
     let n = body.len() + spare;
     if out.len() < n {
-        return with_cell(d, &t);
+        return Ok(with_cell(d, &t));
     }
-    with_cell(put_back(d, body, &mut out[0..n]), &t)
+    Ok(with_cell(put_back(rt, d, body, &mut out[0..n])?, &t))
 }
 
 // The same, of the first bytes of a buffer; `made` is four times their number, plus the spare bytes.
-pub(crate) fn run_made(d: u64, body: &[u8], made: usize, out: &mut [u8]) -> u64 {
+pub(crate) fn run_made(
+    rt: &impl Print,
+    d: u64,
+    body: &[u8],
+    made: usize,
+    out: &mut [u8],
+) -> io::Result<u64> {
     let n = made / 4;
     if n <= body.len() {
-        run_body(d, &body[0..n], made % 4, out)
+        run_body(rt, d, &body[0..n], made % 4, out)
     } else {
-        d
+        Ok(d)
     }
 }
 
@@ -113,23 +130,30 @@ fn written(v: &[u32; 45], tail: &[u8], out: &mut [u8]) -> [u32; 6] {
 }
 
 // What was written is read back, where it was accepted.
-fn put_read_back(d: u64, t: &[u32; 6], out: &[u8]) -> u64 {
+fn put_read_back(rt: &impl Print, d: u64, t: &[u32; 6], out: &[u8]) -> io::Result<u64> {
     let n = size(t[2]);
     if t[1] != 0 {
-        return d;
+        return Ok(d);
     }
     if n <= out.len() {
-        put_reading(d, &out[0..n])
+        put_reading(rt, d, &out[0..n])
     } else {
-        d
+        Ok(d)
     }
 }
 
 // A record is written into a buffer, and where it is accepted read back.
-fn run_written(d: u64, v: &[u32; 45], tail: &[u8], out: &mut [u8]) -> u64 {
+fn run_written(
+    rt: &impl Print,
+    d: u64,
+    v: &[u32; 45],
+    tail: &[u8],
+    out: &mut [u8],
+) -> io::Result<u64> {
     let t = written(v, tail, out);
-    let after = put_bytes(put_told(d, &t), out);
-    with_cell(put_read_back(after, &t, out), &t)
+    let told = put_told(rt, d, &t)?;
+    let after = put_bytes(rt, told, out)?;
+    Ok(with_cell(put_read_back(rt, after, &t, out)?, &t))
 }
 
 // The length of the buffer for a record.
@@ -142,14 +166,20 @@ fn room_for(v: &[u32; 45], t: &[u32; 6]) -> usize {
 }
 
 // A record is measured, written into a buffer of the length that its rule gives, and read back.
-fn run_record(d: u64, v: &[u32; 45], tail: &[u8], out: &mut [u8]) -> u64 {
+fn run_record(
+    rt: &impl Print,
+    d: u64,
+    v: &[u32; 45],
+    tail: &[u8],
+    out: &mut [u8],
+) -> io::Result<u64> {
     let t = measured(v, tail);
     let n = room_for(v, &t);
-    let after = put_told(d, &t);
+    let after = put_told(rt, d, &t)?;
     if n <= out.len() {
-        run_written(after, v, tail, &mut out[0..n])
+        run_written(rt, after, v, tail, &mut out[0..n])
     } else {
-        after
+        Ok(after)
     }
 }
 
@@ -173,12 +203,18 @@ fn written_in_room(v: &[u32; 45], tail: &[u8], out: &mut [u8]) -> [u32; 6] {
 }
 
 // A record is measured, written, and where it is accepted read back, with the tail that it asks for.
-pub(crate) fn run_case(d: u64, v: &[u32; 45], tail: &[u8], out: &mut [u8]) -> u64 {
+pub(crate) fn run_case(
+    rt: &impl Print,
+    d: u64,
+    v: &[u32; 45],
+    tail: &[u8],
+    out: &mut [u8],
+) -> io::Result<u64> {
     let n = size(v[42]);
     if n <= tail.len() {
-        run_record(d, v, &tail[0..n], out)
+        run_record(rt, d, v, &tail[0..n], out)
     } else {
-        d
+        Ok(d)
     }
 }
 
@@ -214,17 +250,18 @@ fn values_of(set: u32, case: u32) -> [u32; 45] {
 
 // Runs a case of a set.
 pub(crate) fn run(
+    rt: &impl Print,
     set: u32,
     case: u32,
     d: u64,
     body: &mut [u8],
     out: &mut [u8],
     tail: &[u8],
-) -> u64 {
+) -> io::Result<u64> {
     if set < 3 {
         let made = make(set, case, body);
-        run_made(d, body, made, out)
+        run_made(rt, d, body, made, out)
     } else {
-        run_case(d, &values_of(set, case), tail, out)
+        run_case(rt, d, &values_of(set, case), tail, out)
     }
 }

@@ -4,6 +4,7 @@ use answers::option::{OptionBool, OptionU8, OptionU32};
 use s2xv2::mode::S2Xv2Mode;
 use s2xv2::record::S2Xv2SatelliteDeliverySystem;
 use s2xv2::superframe::{OptionSuperframe, S2Xv2Superframe};
+use std::io;
 
 // Two numbers.
 #[derive(Clone, Copy)]
@@ -134,12 +135,18 @@ fn superframe(o: OptionSuperframe) -> [u32; 14] {
 }
 
 // The superframe block, into the digest.
-fn put_superframe(d: u64, o: OptionSuperframe) -> u64 {
-    put_all(d, &superframe(o))
+fn put_superframe(rt: &impl Print, d: u64, o: OptionSuperframe) -> io::Result<u64> {
+    put_all(rt, d, &superframe(o))
 }
 
 // All fields of a record, into the digest.
-pub(crate) fn put_record(d: u64, r: S2Xv2SatelliteDeliverySystem) -> u64 {
+pub(crate) fn put_record(
+    rt: &impl Print,
+    d: u64,
+    r: S2Xv2SatelliteDeliverySystem,
+) -> io::Result<u64> {
     let frame = r.superframe;
-    put_superframe(put_all(put_all(d, &core(r)), &parts(r)), frame)
+    let d = put_all(rt, d, &core(r))?;
+    let d = put_all(rt, d, &parts(r))?;
+    put_superframe(rt, d, frame)
 }

@@ -1,6 +1,7 @@
 // Answers as numbers: how many there are, then the answer's own number and what it tells, 0 behind them.
 use crate::digest::put;
 use answers::answer::{Answer, Refusal};
+use std::io;
 
 // The low 32 bits of a size.
 fn low(n: usize) -> u32 {
@@ -47,42 +48,48 @@ pub(crate) fn cell(t: &[u32; 6]) -> u32 {
 }
 
 // An answer, into the digest.
-pub(crate) fn put_told(start: u64, t: &[u32; 6]) -> u64 {
+pub(crate) fn put_told(rt: &impl Print, start: u64, t: &[u32; 6]) -> io::Result<u64> {
     let n = t[0] % 6;
     let mut d = start;
     let mut i: u32 = 0;
     while i < n {
-        d = put(d, at(t, (i + 1) as usize));
+        d = put(rt, d, at(t, (i + 1) as usize))?;
         i += 1;
     }
-    d
+    Ok(d)
 }
 
 // Prints a space and a number.
-fn word(v: u32) {
-    io::write_all(1, b" ");
-    io::print_decimal(1, v as u64);
+fn word(rt: &impl Print, v: u32) -> io::Result<()> {
+    print!(rt; " {v}")
 }
 
 // The numbers, with a space before each.
-pub(crate) fn print(t: &[u32; 6]) {
+pub(crate) fn print(rt: &impl Print, t: &[u32; 6]) -> io::Result<()> {
     let n = t[0] % 6;
     let mut i: u32 = 0;
     while i < n {
-        word(at(t, (i + 1) as usize));
+        word(rt, at(t, (i + 1) as usize))?;
         i += 1;
     }
+    Ok(())
 }
 
 // The counts of an answer: those of its cells.
-fn print_row(counts: &[u32; 43], answer: u32, from: usize, to: usize) {
-    io::print_decimal(1, answer as u64);
+fn print_row(
+    rt: &impl Print,
+    counts: &[u32; 43],
+    answer: u32,
+    from: usize,
+    to: usize,
+) -> io::Result<()> {
+    print!(rt; "{answer}")?;
     let mut i = from;
     while i < to {
-        word(count_at(counts, i));
+        word(rt, count_at(counts, i))?;
         i += 1;
     }
-    io::write_all(1, b"\n");
+    println!(rt; "")
 }
 
 // A count, 0 behind the end.
@@ -91,11 +98,11 @@ fn count_at(counts: &[u32; 43], i: usize) -> u32 {
 }
 
 // Prints the counts, a line for each answer.
-pub(crate) fn print_counts(counts: &[u32; 43]) {
-    print_row(counts, 0, 0, 1);
-    print_row(counts, 1, 1, 10);
-    print_row(counts, 2, 10, 11);
-    print_row(counts, 3, 11, 20);
-    print_row(counts, 4, 20, 42);
-    print_row(counts, 5, 42, 43);
+pub(crate) fn print_counts(rt: &impl Print, counts: &[u32; 43]) -> io::Result<()> {
+    print_row(rt, counts, 0, 0, 1)?;
+    print_row(rt, counts, 1, 1, 10)?;
+    print_row(rt, counts, 2, 10, 11)?;
+    print_row(rt, counts, 3, 11, 20)?;
+    print_row(rt, counts, 4, 20, 42)?;
+    print_row(rt, counts, 5, 42, 43)
 }

@@ -2,6 +2,7 @@
 use crate::print;
 use answers::answer::{Answer, Refusal};
 use s2xv2::record::S2Xv2SatelliteDeliverySystem;
+use std::io;
 
 // Whether a refusal is for the form.
 fn is_form(why: Refusal) -> bool {
@@ -37,9 +38,10 @@ pub(crate) fn begun(slot: &mut [u8]) -> Answer {
 }
 
 // Prints that answer, where begin refuses the slot for its form.
-pub(crate) fn tell(answer: Answer, slot: &mut [u8]) {
+pub(crate) fn tell(rt: &impl Print, answer: Answer, slot: &mut [u8]) -> io::Result<()> {
     if is_due(answer) {
-        io::write_all(1, b"; again ");
-        print::answer(begun(slot));
+        print!(rt; "; again ")?;
+        print::answer(rt, begun(slot))?;
     }
+    Ok(())
 }

@@ -10,6 +10,7 @@ use crate::sample::{count, draw, fill_part, next, seed};
 use crate::{again, seen};
 use answers::answer::Answer;
 use s2xv2::record::S2Xv2SatelliteDeliverySystem;
+use std::io;
 
 // A size that a slot may have, but for one case in 32.
 fn slot_size(d: usize) -> usize {
@@ -190,27 +191,27 @@ fn run_all(counts: &mut [u32; 12]) -> u32 {
 
 // Prints the counts of slots that answer 12, by cause, with those last that have none; and of those in which begin is
 // accepted once they are made empty.
-fn broken(counts: &[u32; 12]) {
-    word(b"\nform ", counts[4]);
-    word(b" ", counts[5]);
-    word(b" ", counts[6]);
-    word(b" ", counts[7]);
-    word(b" ", counts[8]);
-    word(b" ", counts[9]);
-    word(b" ", counts[10]);
-    word(b"\nagain ", counts[11]);
+fn broken(rt: &impl Print, counts: &[u32; 12]) -> io::Result<()> {
+    word(rt, "\nform ", counts[4])?;
+    word(rt, " ", counts[5])?;
+    word(rt, " ", counts[6])?;
+    word(rt, " ", counts[7])?;
+    word(rt, " ", counts[8])?;
+    word(rt, " ", counts[9])?;
+    word(rt, " ", counts[10])?;
+    word(rt, "\nagain ", counts[11])
 }
 
 // Prints the counts of slots that read as a record, as empty, that answer 6, that answer 1, and that answer 12, and the
 // digest.
-pub(crate) fn slots() {
+pub(crate) fn slots(rt: &impl Print) -> io::Result<()> {
     let mut counts = [0u32; 12];
     let d = run_all(&mut counts);
-    word(b"slots 131072\n", counts[0]);
-    word(b" ", counts[1]);
-    word(b" ", counts[2]);
-    word(b" ", counts[3]);
-    broken(&counts);
-    word(b"\ndigest ", d);
-    io::write_all(1, b"\n");
+    word(rt, "slots 131072\n", counts[0])?;
+    word(rt, " ", counts[1])?;
+    word(rt, " ", counts[2])?;
+    word(rt, " ", counts[3])?;
+    broken(rt, &counts)?;
+    word(rt, "\ndigest ", d)?;
+    println!(rt; "")
 }

@@ -4,6 +4,7 @@ use crate::heads::{byte_of, lay, size_of};
 use crate::{again, print};
 use lines::put::put;
 use s2xv2::record::S2Xv2SatelliteDeliverySystem;
+use std::io;
 
 // The length that stands behind a tag.
 fn length_behind(heads: &[u8], i: usize) -> u8 {
@@ -43,144 +44,166 @@ fn lay_out(slot: &mut [u8], heads: &[u8], at: usize) {
 }
 
 // Lays a slot out, and prints what it reads as, and what begin answers for the default record.
-fn tell(slot: &mut [u8], heads: &[u8], at: usize) {
+fn tell(rt: &impl Print, slot: &mut [u8], heads: &[u8], at: usize) -> io::Result<()> {
     lay_out(slot, heads, at);
-    print::reading(slot);
-    io::write_all(1, b"; begin ");
+    print::reading(rt, slot)?;
+    print!(rt; "; begin ")?;
     let b = begin::begin(slot, S2Xv2SatelliteDeliverySystem::default(), &[]);
     let answer = b.answer;
-    print::answer(answer);
-    again::tell(answer, slot);
-    io::write_all(1, b"\n");
+    print::answer(rt, answer)?;
+    again::tell(rt, answer, slot)?;
+    println!(rt; "")
 }
 
 // One slot with another third byte at a place; behind the slot's end it is left out.
-fn other_third(name: &[u8], n: usize, heads: &[u8], at: usize) {
+fn other_third(rt: &impl Print, name: &str, n: usize, heads: &[u8], at: usize) -> io::Result<()> {
     let mut room = [0u8; 258];
-    io::write_all(1, b"slot ");
-    io::write_all(1, name);
-    io::write_all(1, b": ");
+    print!(rt; "slot {name}: ")?;
     if n <= 258 {
-        tell(&mut room[0..n], heads, at);
+        tell(rt, &mut room[0..n], heads, at)?;
     }
+    Ok(())
 }
 
 // One slot: its name, its size, and the tags and lengths of its descriptors. What is not the head of a descriptor is 0.
-fn one(name: &[u8], n: usize, heads: &[u8]) {
-    other_third(name, n, heads, n);
+fn one(rt: &impl Print, name: &str, n: usize, heads: &[u8]) -> io::Result<()> {
+    other_third(rt, name, n, heads, n)
 }
 
 // Slots in good form.
-fn good() {
-    one(b"stuffing, ours of length 1", 21, &[0x42, 16, 0x7F, 1]);
-    one(b"ours of length 1, stuffing", 21, &[0x7F, 1, 0x42, 16]);
-    one(b"stuffing, ours to the end", 44, &[0x42, 10, 0x7F, 30]);
+fn good(rt: &impl Print) -> io::Result<()> {
+    one(rt, "stuffing, ours of length 1", 21, &[0x42, 16, 0x7F, 1])?;
+    one(rt, "ours of length 1, stuffing", 21, &[0x7F, 1, 0x42, 16])?;
+    one(rt, "stuffing, ours to the end", 44, &[0x42, 10, 0x7F, 30])?;
     one(
-        b"stuffing, ours, stuffing",
+        rt,
+        "stuffing, ours, stuffing",
         44,
         &[0x42, 10, 0x7F, 19, 0x42, 9],
-    );
-    one(b"ours, stuffing twice", 44, &[0x7F, 19, 0x42, 0, 0x42, 19]);
+    )?;
     one(
-        b"stuffing, ours of a body of 17",
+        rt,
+        "ours, stuffing twice",
+        44,
+        &[0x7F, 19, 0x42, 0, 0x42, 19],
+    )?;
+    one(
+        rt,
+        "stuffing, ours of a body of 17",
         44,
         &[0x42, 0, 0x7F, 18, 0x42, 20],
-    );
-    one(b"stuffing twice", 44, &[0x42, 10, 0x42, 30]);
-    one(b"128 pieces", 256, &[0x42, 0]);
+    )?;
+    one(rt, "stuffing twice", 44, &[0x42, 10, 0x42, 30])?;
+    one(rt, "128 pieces", 256, &[0x42, 0])
 }
 
 // Descriptors that do not cover the slot.
-fn uncovered() {
-    one(b"length 0, then 0x24", 44, &[0x7F, 0, 0x24, 40]);
-    one(b"length 0, then stuffing", 44, &[0x7F, 0, 0x42, 40]);
-    one(b"one byte left", 44, &[0x42, 10, 0x7F, 29]);
-    one(b"one byte past the end", 44, &[0x42, 10, 0x7F, 31]);
-    one(b"stuffing past the end", 44, &[0x42, 10, 0x42, 31]);
-    one(b"a length of 255", 44, &[0x42, 10, 0x7F, 255]);
+fn uncovered(rt: &impl Print) -> io::Result<()> {
+    one(rt, "length 0, then 0x24", 44, &[0x7F, 0, 0x24, 40])?;
+    one(rt, "length 0, then stuffing", 44, &[0x7F, 0, 0x42, 40])?;
+    one(rt, "one byte left", 44, &[0x42, 10, 0x7F, 29])?;
+    one(rt, "one byte past the end", 44, &[0x42, 10, 0x7F, 31])?;
+    one(rt, "stuffing past the end", 44, &[0x42, 10, 0x42, 31])?;
+    one(rt, "a length of 255", 44, &[0x42, 10, 0x7F, 255])
 }
 
 // Descriptors that may not stand there.
-fn foreign() {
-    one(b"two of ours", 44, &[0x7F, 19, 0x7F, 21]);
+fn foreign(rt: &impl Print) -> io::Result<()> {
+    one(rt, "two of ours", 44, &[0x7F, 19, 0x7F, 21])?;
     one(
-        b"two of ours, stuffing between",
+        rt,
+        "two of ours, stuffing between",
         44,
         &[0x7F, 19, 0x42, 0, 0x7F, 19],
-    );
+    )?;
     one(
-        b"foreign tag in the middle",
+        rt,
+        "foreign tag in the middle",
         44,
         &[0x42, 10, 0x48, 8, 0x7F, 20],
-    );
+    )?;
     one(
-        b"foreign tag behind ours",
+        rt,
+        "foreign tag behind ours",
         44,
         &[0x42, 0, 0x7F, 19, 0x48, 19],
-    );
+    )
 }
 
 // The sizes at both ends, with descriptors that cover the slot, and wrong ones with what would break the form.
-fn sizes() {
-    one(b"size 20", 20, &[0x42, 0, 0x42, 16]);
-    one(b"size 21", 21, &[0x42, 0, 0x42, 17]);
-    one(b"size 257", 257, &[0x42, 0, 0x7F, 253]);
-    one(b"size 258", 258, &[0x42, 1, 0x7F, 253]);
-    one(b"size 20, broken", 20, &[0x48, 3]);
-    one(b"size 258, broken", 258, &[0x48, 3]);
+fn sizes(rt: &impl Print) -> io::Result<()> {
+    one(rt, "size 20", 20, &[0x42, 0, 0x42, 16])?;
+    one(rt, "size 21", 21, &[0x42, 0, 0x42, 17])?;
+    one(rt, "size 257", 257, &[0x42, 0, 0x7F, 253])?;
+    one(rt, "size 258", 258, &[0x42, 1, 0x7F, 253])?;
+    one(rt, "size 20, broken", 20, &[0x48, 3])?;
+    one(rt, "size 258, broken", 258, &[0x48, 3])
 }
 
 // Causes at byte 0 and behind stuffing.
-fn behind_stuffing() {
-    one(b"first past the end", 44, &[0x42, 43]);
-    one(b"first tag foreign", 44, &[0x48, 42]);
-    one(b"stuffing, one byte left", 44, &[0x42, 41]);
-    one(b"stuffing, foreign tag", 44, &[0x42, 10, 0x48, 30]);
-    one(b"stuffing, length 0", 44, &[0x42, 10, 0x7F, 0, 0x42, 28]);
-    one(b"stuffing, two of ours", 44, &[0x42, 0, 0x7F, 19, 0x7F, 19]);
+fn behind_stuffing(rt: &impl Print) -> io::Result<()> {
+    one(rt, "first past the end", 44, &[0x42, 43])?;
+    one(rt, "first tag foreign", 44, &[0x48, 42])?;
+    one(rt, "stuffing, one byte left", 44, &[0x42, 41])?;
+    one(rt, "stuffing, foreign tag", 44, &[0x42, 10, 0x48, 30])?;
+    one(rt, "stuffing, length 0", 44, &[0x42, 10, 0x7F, 0, 0x42, 28])?;
+    one(
+        rt,
+        "stuffing, two of ours",
+        44,
+        &[0x42, 0, 0x7F, 19, 0x7F, 19],
+    )
 }
 
 // Causes behind ours.
-fn behind_ours() {
-    one(b"ours, one byte left", 44, &[0x7F, 41]);
-    one(b"ours, stuffing past the end", 44, &[0x7F, 19, 0x42, 22]);
-    one(b"ours, foreign tag", 44, &[0x7F, 19, 0x48, 21]);
-    one(b"ours, length 0", 44, &[0x7F, 19, 0x7F, 0, 0x42, 19]);
-    one(b"ours, a second past the end", 44, &[0x7F, 19, 0x7F, 22]);
+fn behind_ours(rt: &impl Print) -> io::Result<()> {
+    one(rt, "ours, one byte left", 44, &[0x7F, 41])?;
+    one(rt, "ours, stuffing past the end", 44, &[0x7F, 19, 0x42, 22])?;
+    one(rt, "ours, foreign tag", 44, &[0x7F, 19, 0x48, 21])?;
+    one(rt, "ours, length 0", 44, &[0x7F, 19, 0x7F, 0, 0x42, 19])?;
+    one(rt, "ours, a second past the end", 44, &[0x7F, 19, 0x7F, 22])
 }
 
 // Causes at the end, and two of them at once.
-fn at_the_end() {
-    one(b"foreign tag past the end", 44, &[0x42, 10, 0x48, 31]);
-    one(b"length 0 at the end", 44, &[0x42, 40, 0x7F, 0]);
+fn at_the_end(rt: &impl Print) -> io::Result<()> {
+    one(rt, "foreign tag past the end", 44, &[0x42, 10, 0x48, 31])?;
+    one(rt, "length 0 at the end", 44, &[0x42, 40, 0x7F, 0])?;
     one(
-        b"length 0 and 0x24 at the end",
+        rt,
+        "length 0 and 0x24 at the end",
         44,
         &[0x42, 39, 0x7F, 0, 0x24, 0],
-    );
-    one(b"one byte left of 257", 257, &[0x42, 254]);
+    )?;
+    one(rt, "one byte left of 257", 257, &[0x42, 254])
 }
 
 // Another third byte than ours has.
-fn third_bytes() {
-    other_third(b"first with another third byte", 44, &[0x7F, 42], 2);
+fn third_bytes(rt: &impl Print) -> io::Result<()> {
+    other_third(rt, "first with another third byte", 44, &[0x7F, 42], 2)?;
     other_third(
-        b"stuffing, another third byte",
+        rt,
+        "stuffing, another third byte",
         44,
         &[0x42, 10, 0x7F, 30],
         14,
-    );
-    other_third(b"ours, another third byte", 44, &[0x7F, 19, 0x7F, 21], 23);
+    )?;
+    other_third(
+        rt,
+        "ours, another third byte",
+        44,
+        &[0x7F, 19, 0x7F, 21],
+        23,
+    )
 }
 
 // All of them.
-pub(crate) fn slots() {
-    good();
-    uncovered();
-    foreign();
-    sizes();
-    behind_stuffing();
-    behind_ours();
-    at_the_end();
-    third_bytes();
+pub(crate) fn slots(rt: &impl Print) -> io::Result<()> {
+    good(rt)?;
+    uncovered(rt)?;
+    foreign(rt)?;
+    sizes(rt)?;
+    behind_stuffing(rt)?;
+    behind_ours(rt)?;
+    at_the_end(rt)?;
+    third_bytes(rt)
 }

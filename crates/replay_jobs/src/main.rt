@@ -21,6 +21,7 @@ mod stop;
 use lines::put::put;
 use print::word;
 use sample::{count, fill};
+use std::io;
 
 // The record of a case: each of the six kinds, and then those that fill the slot (1) and that have all parts (5) in
 // turn.
@@ -150,24 +151,24 @@ fn run_all(tail: &[u8], counts: &mut [u32; 12]) -> u32 {
 }
 
 // Runs all cases, and prints the counts and the digest.
-fn jobs() {
+fn jobs(rt: &impl Print) -> io::Result<()> {
     let mut tail = [0u8; 257];
     let mut counts = [0u32; 12];
     fill(&mut tail, 257, 1);
     let d = run_all(&tail, &mut counts);
-    word(b"jobs 3792\n", counts[0]);
-    word(b" ", counts[1]);
-    word(b" ", counts[2]);
-    word(b" ", counts[3]);
-    word(b" ", counts[4]);
-    word(b"\ndigest ", d);
-    io::write_all(1, b"\n");
+    word(rt, "jobs 3792\n", counts[0])?;
+    word(rt, " ", counts[1])?;
+    word(rt, " ", counts[2])?;
+    word(rt, " ", counts[3])?;
+    word(rt, " ", counts[4])?;
+    word(rt, "\ndigest ", d)?;
+    println!(rt; "")
 }
 
 // Runs the begins and the slots with a name, all jobs, and the slots by draws.
-fn main() {
-    named::begins();
-    forms::slots();
-    jobs();
-    drawn::slots();
+fn main(rt: HostRuntime) -> io::Result<()> {
+    named::begins(&rt)?;
+    forms::slots(&rt)?;
+    jobs(&rt)?;
+    drawn::slots(&rt)
 }

@@ -9,6 +9,7 @@ use lines::put::put;
 use s2xv2::mode::S2Xv2Mode;
 use s2xv2::record::S2Xv2SatelliteDeliverySystem;
 use s2xv2::superframe::{OptionSuperframe, S2Xv2Superframe};
+use std::io;
 
 // The slots, named by their sizes or by what is wrong with them.
 #[derive(Clone, Copy)]
@@ -157,80 +158,98 @@ fn begun(slot: &[u8], record: S2Xv2SatelliteDeliverySystem, count: usize) -> Beg
 }
 
 // Begins a job on a slot and steps it to its end, and prints the answers and a digest of the slot after the step.
-fn tell(slot: &mut [u8], l: Layout, record: S2Xv2SatelliteDeliverySystem, count: usize) {
+fn tell(
+    rt: &impl Print,
+    slot: &mut [u8],
+    l: Layout,
+    record: S2Xv2SatelliteDeliverySystem,
+    count: usize,
+) -> io::Result<()> {
     lay(slot, l);
     let b = begun(slot, record, count);
     let answer = b.answer;
     let job = b.job;
-    print::answer(answer);
-    print::step(job, slot);
-    print::word(b"; slot ", put_bytes(0, slot));
-    again::tell(answer, slot);
-    io::write_all(1, b"\n");
+    print::answer(rt, answer)?;
+    print::step(rt, job, slot)?;
+    print::word(rt, "; slot ", put_bytes(0, slot))?;
+    again::tell(rt, answer, slot)?;
+    println!(rt; "")
 }
 
 // One begin: its name, its slot, its record and how long its tail is.
-fn one(name: &[u8], s: Slot, k: Kind, count: usize) {
+fn one(rt: &impl Print, name: &str, s: Slot, k: Kind, count: usize) -> io::Result<()> {
     let mut room = [0u8; 258];
     let l = row(s);
     let n = l.0;
-    io::write_all(1, b"begin ");
-    io::write_all(1, name);
-    io::write_all(1, b": ");
+    print!(rt; "begin {name}: ")?;
     if n <= 258 {
-        tell(&mut room[0..n], l, record(k), count);
+        tell(rt, &mut room[0..n], l, record(k), count)?;
     }
+    Ok(())
 }
 
 // Begins that are accepted: on an empty slot that the descriptor fills, and on one that holds a record.
-fn accepted() {
-    one(b"empty slot of 21", Slot::Empty21, Kind::Core, 0);
-    one(b"over a record", Slot::Held, Kind::Full, 5);
+fn accepted(rt: &impl Print) -> io::Result<()> {
+    one(rt, "empty slot of 21", Slot::Empty21, Kind::Core, 0)?;
+    one(rt, "over a record", Slot::Held, Kind::Full, 5)
 }
 
 // Slots of a wrong size or form.
-fn wrong_slots() {
-    one(b"slot of 20", Slot::Empty20, Kind::Core, 0);
-    one(b"slot of 258", Slot::Held258, Kind::Core, 3);
-    one(b"first tag", Slot::FirstTag, Kind::Core, 2);
-    one(b"extension", Slot::Extension, Kind::Core, 2);
-    one(b"length 0", Slot::Length0, Kind::Core, 2);
-    one(b"second tag", Slot::SecondTag, Kind::Core, 2);
+fn wrong_slots(rt: &impl Print) -> io::Result<()> {
+    one(rt, "slot of 20", Slot::Empty20, Kind::Core, 0)?;
+    one(rt, "slot of 258", Slot::Held258, Kind::Core, 3)?;
+    one(rt, "first tag", Slot::FirstTag, Kind::Core, 2)?;
+    one(rt, "extension", Slot::Extension, Kind::Core, 2)?;
+    one(rt, "length 0", Slot::Length0, Kind::Core, 2)?;
+    one(rt, "second tag", Slot::SecondTag, Kind::Core, 2)
 }
 
 // Records that contradict themselves, encodings at the limit, descriptors that do not fit, and values that the wire
 // cannot carry.
-fn wrong_records() {
-    one(b"mode Reserved(1)", Slot::Held, Kind::Reserved1, 2);
-    one(b"no superframe", Slot::Held, Kind::NoBlock, 2);
-    one(b"4097 bytes", Slot::Held, Kind::Core, 4079);
-    one(b"4096 bytes", Slot::Held, Kind::Core, 4078);
-    one(b"one byte larger", Slot::Empty21, Kind::Core, 1);
-    one(b"one byte smaller", Slot::Empty22, Kind::Core, 0);
-    one(b"wide satellite_id", Slot::Held, Kind::Wide, 2);
-    one(b"bond count 0", Slot::Held, Kind::NoBonds, 2);
+fn wrong_records(rt: &impl Print) -> io::Result<()> {
+    one(rt, "mode Reserved(1)", Slot::Held, Kind::Reserved1, 2)?;
+    one(rt, "no superframe", Slot::Held, Kind::NoBlock, 2)?;
+    one(rt, "4097 bytes", Slot::Held, Kind::Core, 4079)?;
+    one(rt, "4096 bytes", Slot::Held, Kind::Core, 4078)?;
+    one(rt, "one byte larger", Slot::Empty21, Kind::Core, 1)?;
+    one(rt, "one byte smaller", Slot::Empty22, Kind::Core, 0)?;
+    one(rt, "wide satellite_id", Slot::Held, Kind::Wide, 2)?;
+    one(rt, "bond count 0", Slot::Held, Kind::NoBonds, 2)
 }
 
 // What is refused for two reasons: the first in the order of begin is told.
-fn ordered() {
-    one(b"6 before 12, 20 bytes", Slot::Broken20, Kind::BothLists, 2);
+fn ordered(rt: &impl Print) -> io::Result<()> {
     one(
-        b"6 before 12, 258 bytes",
+        rt,
+        "6 before 12, 20 bytes",
+        Slot::Broken20,
+        Kind::BothLists,
+        2,
+    )?;
+    one(
+        rt,
+        "6 before 12, 258 bytes",
         Slot::Broken258,
         Kind::BothLists,
         2,
-    );
-    one(b"12 before 3", Slot::FirstTag, Kind::Reserved1, 2);
-    one(b"12 before both lists", Slot::SecondTag, Kind::BothLists, 2);
-    one(b"3 before 2", Slot::Held, Kind::Reserved1, 4079);
-    one(b"2 before 7", Slot::Held, Kind::Wide, 4079);
-    one(b"7 before 4", Slot::Empty22, Kind::Wide, 0);
+    )?;
+    one(rt, "12 before 3", Slot::FirstTag, Kind::Reserved1, 2)?;
+    one(
+        rt,
+        "12 before both lists",
+        Slot::SecondTag,
+        Kind::BothLists,
+        2,
+    )?;
+    one(rt, "3 before 2", Slot::Held, Kind::Reserved1, 4079)?;
+    one(rt, "2 before 7", Slot::Held, Kind::Wide, 4079)?;
+    one(rt, "7 before 4", Slot::Empty22, Kind::Wide, 0)
 }
 
 // All of them.
-pub(crate) fn begins() {
-    accepted();
-    wrong_slots();
-    wrong_records();
-    ordered();
+pub(crate) fn begins(rt: &impl Print) -> io::Result<()> {
+    accepted(rt)?;
+    wrong_slots(rt)?;
+    wrong_records(rt)?;
+    ordered(rt)
 }

@@ -1,10 +1,13 @@
 // The input: from a file or from standard input, as bytes or as hexadecimal text.
-ghost use Rattle.std.specs.Prelude.{◌≤◌, length};
+ghost use Rattle.std.specs.Prelude.{◌≤◌, length, IfOk};
 
 use crate::options::Options;
 use crate::sentence;
 use hexadecimal::decode::Decoded;
-use libc::STDIN_FILENO;
+use std::fs::File;
+use std::io;
+use std::io::{IsTerminal, Read};
+use std::rt::Env;
 
 // How far the input has come, and whether all went well.
 #[derive(Clone, Copy)]
@@ -21,120 +24,128 @@ fn nothing() -> Input
 }
 
 // One read into `buf` from `at` on. It comes no further at the input's end.
-fn read_some(fd: i32, buf: &mut [u8], at: usize) -> Input
+fn read_some(from: &mut impl Read, buf: &mut [u8], at: usize) -> io::Result<usize>
     requires { at ≤ length buf.old }
-    ensures { (at ≤ result.at) × (result.at ≤ length buf.old) }
+    ensures { IfOk result (λ next. (at ≤ next) × (next ≤ length buf.old)) }
 {
-    let part = &mut buf[at..];
-    let got = libc::read(fd, part);
-    let n = io::count(got, part);
-    Input {
-        ok: 0 <= got,
-        at: at + n,
-    }
+    let n = from.read(&mut buf[at..])?;
+    Ok(at + n)
 }
 
 // Reads until `buf` is full, the input ends or a read fails.
-fn read_all(fd: i32, buf: &mut [u8]) -> Input
-    ensures { result.at ≤ length buf.old }
+fn read_all(from: &mut impl Read, buf: &mut [u8]) -> io::Result<usize>
+    ensures { IfOk result (λ at. at ≤ length buf.old) }
 {
     let mut at = 0;
     while at < buf.len() {
-        let next = read_some(fd, buf, at);
-        if !next.ok {
-            return next;
+        let next = read_some(from, buf, at)?;
+        if next == at {
+            return Ok(next);
         }
-        if next.at == at {
-            return next;
-        }
-        at = next.at;
+        at = next;
     }
-    Input { ok: true, at }
+    Ok(at)
 }
 
 // Reads into `buf`, and says where that fails that the input, which has this name, cannot be read.
-fn read(fd: i32, name: &[u8], buf: &mut [u8]) -> Input
+fn read(rt: &HostRuntime, from: &mut impl Read, name: &[u8], buf: &mut [u8]) -> Input
     ensures { result.at ≤ length buf.old }
 {
-    let got = read_all(fd, buf);
-    if !got.ok {
-        sentence::cannot(b"read", name);
+    match read_all(from, buf) {
+        Ok(at) => Input { ok: true, at },
+        Err(why) => {
+            sentence::cannot(rt, b"read", name, why);
+            nothing()
+        }
     }
-    got
 }
 
 // The bytes that a text stands for, or why there are none.
-fn decoded(text: &[u8], out: &mut [u8]) -> Input
+fn decoded(rt: &HostRuntime, text: &[u8], out: &mut [u8]) -> Input
     ensures { result.at ≤ length out.old }
 {
     let answer = hexadecimal::decode::decode(text, out);
     match answer {
         Decoded::Bytes(n) => Input { ok: true, at: n },
         Decoded::Refused(at) => {
-            sentence::no_hex(text.len(), at);
+            sentence::no_hex(rt, text.len(), at);
             nothing()
         }
     }
 }
 
 // Reads hexadecimal text, of which there may be 65,536 bytes, and gives what it stands for.
-fn read_hex(fd: i32, name: &[u8], out: &mut [u8]) -> Input
+fn read_hex(rt: &HostRuntime, from: &mut impl Read, name: &[u8], out: &mut [u8]) -> Input
     ensures { result.at ≤ length out.old }
 {
     // One byte more than a text may have, so that a longer one is seen to be.
     let mut text = [0u8; 65537];
-    let got = read(fd, name, &mut text);
+    let got = read(rt, from, name, &mut text);
     if !got.ok {
         return nothing();
     }
     let n = got.at;
     if 65536 < n {
-        sentence::say(b"the hexadecimal text has more than 65536 bytes");
+        sentence::say(rt, b"the hexadecimal text has more than 65536 bytes");
         return nothing();
     }
-    decoded(&text[0..n], out)
+    decoded(rt, &text[0..n], out)
 }
 
-// Reads what is open as `fd` and has this name. Before a terminal says what is waited for.
-fn read_open(fd: i32, name: &[u8], o: Options, out: &mut [u8]) -> Input
+// Reads what is open and has this name. Before a terminal says what is waited for.
+fn read_open<R: Read + IsTerminal>(
+    rt: &HostRuntime,
+    from: &mut R,
+    name: &[u8],
+    o: Options,
+    out: &mut [u8],
+) -> Input
     ensures { result.at ≤ length out.old }
 {
-    if libc::isatty(fd) == 1 {
-        sentence::waiting(o);
+    if from.is_terminal() {
+        sentence::waiting(rt, o);
     }
     if o.hex {
-        read_hex(fd, name, out)
+        read_hex(rt, from, name, out)
     } else {
-        read(fd, name, out)
+        read(rt, from, name, out)
     }
 }
 
 // Opens the file with this name, and reads it.
-fn read_file(name: &[u8], o: Options, out: &mut [u8]) -> Input
+fn read_file(rt: &HostRuntime, name: &[u8], o: Options, out: &mut [u8]) -> Input
     ensures { result.at ≤ length out.old }
 {
-    let fd = os::open_read(name);
-    if fd < 0 {
-        sentence::cannot(b"open", name);
-        return nothing();
+    match open(rt, name) {
+        Ok(mut file) => read_open(rt, &mut file, name, o, out),
+        Err(why) => {
+            sentence::cannot(rt, b"open", name, why);
+            nothing()
+        }
     }
-    let got = read_open(fd, name, o, out);
-    libc::close(fd);
-    got
+}
+
+// Opens the file with this name, which must be text: every path is.
+fn open(rt: &HostRuntime, name: &[u8]) -> io::Result<File> {
+    match str::from_utf8(name) {
+        Ok(path) => File::open(rt, path),
+        Err(_) => Err(io::Error::new(io::ErrorKind::InvalidInput, "The name is not UTF-8")),
+    }
 }
 
 // Reads the input that the options name, as far as `out` reaches.
-pub(crate) fn take(o: Options, out: &mut [u8]) -> Input
+pub(crate) fn take(rt: &HostRuntime, o: Options, out: &mut [u8]) -> Input
     ensures { result.at ≤ length out.old }
 {
     if o.file == 0 {
-        return read_open(STDIN_FILENO, b"standard input", o, out);
+        return read_open(rt, &mut rt.stdin(), b"standard input", o, out);
     }
-    let mut space = io::buffer();
-    let n = os::arg(o.file, &mut space);
-    if os::errno() != 0 {
-        os::fail(b"s2xv2dump: the file's name");
-        return nothing();
+    let mut space = [0u8; 4096];
+    match rt.arg(o.file, &mut space) {
+        Ok(n) => read_file(rt, &space[..n], o, out),
+        Err(why) => {
+            sentence::no_name(rt, why);
+            nothing()
+        }
     }
-    read_file(&space[..n], o, out)
 }

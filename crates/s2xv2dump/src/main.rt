@@ -3,6 +3,7 @@
 #![tactic(auto)]
 
 use options::Options;
+use std::io;
 
 mod input;
 mod options;
@@ -11,35 +12,36 @@ mod show;
 mod usage;
 
 // Prints what the input holds, by what the options say that it is.
-fn print(o: Options, s: &[u8]) {
+fn print(rt: &HostRuntime, o: Options, s: &[u8]) {
     if o.slot {
-        show::slot(s);
+        show::slot(rt, s);
     } else if o.descriptor {
-        show::descriptor(s);
+        show::descriptor(rt, s);
     } else {
-        show::body(s);
+        show::body(rt, s);
     }
 }
 
 // Reads the input and prints what it holds.
-fn run(o: Options) {
+fn run(rt: &HostRuntime, o: Options) {
     // One byte more than a body may have, so that a longer one is seen to be.
     let mut bytes = [0u8; 4097];
-    let got = input::take(o, &mut bytes);
+    let got = input::take(rt, o, &mut bytes);
     let n = got.at;
     if got.ok {
-        print(o, &bytes[0..n]);
+        print(rt, o, &bytes[0..n]);
     }
 }
 
 // Does what the words of the command line ask for, or says how the program is called.
-fn main() {
-    let o = options::given();
+fn main(rt: HostRuntime) -> io::Result<()> {
+    let o = options::given(&rt);
     if o.wrong {
-        usage::wrong();
+        usage::wrong(&rt)
     } else if o.help {
-        usage::help();
+        usage::help(&rt)
     } else {
-        run(o);
+        run(&rt, o);
+        Ok(())
     }
 }

@@ -1,5 +1,6 @@
 // What the words of the command line ask for.
-use check::same;
+use std::env::FillError;
+use std::rt::Env;
 
 // What one word says.
 #[derive(Clone, Copy)]
@@ -37,29 +38,28 @@ fn is_dashed(word: &[u8]) -> bool {
 
 // What a word says.
 fn word_of(word: &[u8]) -> Word {
-    if same(word, b"--help") {
-        return Word::Help;
+    match word {
+        b"--help" => Word::Help,
+        b"--hex" => Word::Hex,
+        b"--descriptor" => Word::Descriptor,
+        b"--slot" => Word::Slot,
+        _ => if is_dashed(word) {
+            Word::Unknown
+        } else {
+            Word::File
+        },
     }
-    if same(word, b"--hex") {
-        return Word::Hex;
-    }
-    if same(word, b"--descriptor") {
-        return Word::Descriptor;
-    }
-    if same(word, b"--slot") {
-        return Word::Slot;
-    }
-    if is_dashed(word) {
-        return Word::Unknown;
-    }
-    Word::File
 }
 
-// What word `i` of the command line says. One of more than 4,096 bytes, which is at best a file's name, reads as empty.
-fn word_at(i: usize) -> Word {
-    let mut space = io::buffer();
-    let n = os::arg(i, &mut space);
-    word_of(&space[..n])
+// What word `i` of the command line says, if there is one. One of more than 4,096 bytes, which is at best a file's name,
+// reads as empty.
+fn word_at(rt: &impl Env, i: usize) -> Option<Word> {
+    let mut space = [0u8; 4096];
+    match rt.arg(i, &mut space) {
+        Ok(n) => Some(word_of(&space[..n])),
+        Err(FillError::TooLong) => Some(word_of(&[])),
+        Err(FillError::NotPresent) => None,
+    }
 }
 
 // The options with word `i`, which names a file. A second file is wrong.
@@ -99,20 +99,20 @@ fn none() -> Options {
 }
 
 // What all words of the command line but the program's own name say.
-fn all() -> Options {
-    let count = os::arg_count();
+fn all(rt: &impl Env) -> Options {
     let mut o = none();
-    let mut i = 1;
-    while i < count {
-        o = with(o, word_at(i), i);
-        i += 1;
+    for i in 1..usize::MAX {
+        match word_at(rt, i) {
+            Some(word) => o = with(o, word, i),
+            None => break,
+        }
     }
     o
 }
 
 // What the command line asks for. An input is not both a descriptor and a slot.
-pub(crate) fn given() -> Options {
-    let mut o = all();
+pub(crate) fn given(rt: &impl Env) -> Options {
+    let mut o = all(rt);
     if o.descriptor && o.slot {
         o.wrong = true;
     }

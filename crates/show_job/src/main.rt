@@ -4,74 +4,70 @@
 ghost use Rattle.std.specs.Prelude.{◌<◌};
 
 use job::job::Job;
-use libc::STDOUT_FILENO;
 use s2xv2::record::S2Xv2SatelliteDeliverySystem;
 use slot::answer::SlotAnswer;
+use std::io;
 
 // Writes one byte.
-fn put(b: u8) {
+fn put(rt: &impl Print, b: u8) -> io::Result<()> {
     let s = [b];
-    io::write_all(STDOUT_FILENO, &s);
+    rt.write_all(&s)
 }
 
 // Writes a digit.
-fn digit(x: u8)
+fn digit(rt: &impl Print, x: u8) -> io::Result<()>
     requires { x < 16 }
 {
     if x < 10 {
-        put(48 + x);
+        put(rt, 48 + x)
     } else {
-        put(55 + x);
+        put(rt, 55 + x)
     }
 }
 
 // Writes a byte in two hexadecimal digits, and a space.
-fn hex(x: u8) {
-    digit(x / 16);
-    digit(x % 16);
-    put(32);
+fn hex(rt: &impl Print, x: u8) -> io::Result<()> {
+    digit(rt, x / 16)?;
+    digit(rt, x % 16)?;
+    put(rt, 32)
 }
 
 // Writes a number below 100 in two decimal digits.
-fn decimal(n: usize) {
-    digit((n / 10 % 10) as u8);
-    digit((n % 10) as u8);
+fn decimal(rt: &impl Print, n: usize) -> io::Result<()> {
+    digit(rt, (n / 10 % 10) as u8)?;
+    digit(rt, (n % 10) as u8)
 }
 
 // Writes what the slot reads as: the low byte of satellite_id, which tells the two records apart, and the tail's length.
-fn reading(s: &[u8]) {
+fn reading(rt: &impl Print, s: &[u8]) -> io::Result<()> {
     let r = slot::read::read(s);
     let a = r.answer;
     let id = r.body.satellite_id;
     match a {
         SlotAnswer::Accepted { place: _, length } => {
-            io::write_all(STDOUT_FILENO, b"record ");
-            hex((id % 256) as u8);
-            io::write_all(STDOUT_FILENO, b"tail ");
-            decimal(length);
+            print!(rt; "record ")?;
+            hex(rt, (id % 256) as u8)?;
+            print!(rt; "tail ")?;
+            decimal(rt, length)
         }
-        SlotAnswer::Empty => {
-            io::write_all(STDOUT_FILENO, b"empty");
-        }
-        SlotAnswer::Refused(_) => {
-            io::write_all(STDOUT_FILENO, b"refused");
-        }
+        SlotAnswer::Empty => print!(rt; "empty"),
+        SlotAnswer::Refused(_) => print!(rt; "refused"),
     }
 }
 
 // Writes how many stores are made, the slot's bytes, and what it reads as.
-fn show(k: usize, s: &[u8]) {
-    decimal(k);
-    put(32);
-    put(32);
+fn show(rt: &impl Print, k: usize, s: &[u8]) -> io::Result<()> {
+    decimal(rt, k)?;
+    put(rt, 32)?;
+    put(rt, 32)?;
     let mut i: usize = 0;
     while i < s.len() {
-        hex(s[i]);
+        hex(rt, s[i])?;
         i += 1;
     }
-    put(32);
-    reading(s);
-    put(10);
+    put(rt, 32)?;
+    reading(rt, s)?;
+    put(rt, 10)
 }
 
 // The record whose body is 18 bytes of `x`.
@@ -89,7 +85,7 @@ fn record(x: u8) -> S2Xv2SatelliteDeliverySystem {
 }
 
 // Stores one record in an empty slot, and then another over it, one store at a time.
-fn over_a_record() {
+fn over_a_record(rt: &impl Print) -> io::Result<()> {
     let mut s = [0u8; 25];
     slot::empty::make_empty(&mut s);
     let tail = [171u8; 1];
@@ -99,26 +95,27 @@ fn over_a_record() {
     let begun = begin::begin(&s, record(2), &tail[..0]);
     let mut j = begun.job;
     let mut k: usize = 0;
-    show(k, &s);
+    show(rt, k, &s)?;
     while k < 27 {
         let d = j.step(&mut s, 1);
         let next = d.job;
         j = next;
         k += 1;
-        show(k, &s);
+        show(rt, k, &s)?;
     }
+    Ok(())
 }
 
 // Makes some stores, and shows the slot after `k` of them.
-fn stepped(job: Job, s: &mut [u8], allowance: usize, k: usize) -> Job {
+fn stepped(rt: &impl Print, job: Job, s: &mut [u8], allowance: usize, k: usize) -> io::Result<Job> {
     let d = job.step(s, allowance);
-    show(k, s);
-    d.job
+    show(rt, k, s)?;
+    Ok(d.job)
 }
 
 // The same record stands behind stuffing of 4 bytes, and another is stored over both. Of the stores in the middle only
 // the last is shown.
-fn behind_stuffing() {
+fn behind_stuffing(rt: &impl Print) -> io::Result<()> {
     let mut s = [1u8; 25];
     s[0] = 0x42;
     s[1] = 2;
@@ -129,16 +126,17 @@ fn behind_stuffing() {
     s[6] = 0x24;
     let begun = begin::begin(&s, record(2), &[]);
     let job = begun.job;
-    show(0, &s);
-    let job = stepped(job, &mut s, 1, 1);
-    let job = stepped(job, &mut s, 1, 2);
-    let job = stepped(job, &mut s, 24, 26);
-    stepped(job, &mut s, 1, 27);
+    show(rt, 0, &s)?;
+    let job = stepped(rt, job, &mut s, 1, 1)?;
+    let job = stepped(rt, job, &mut s, 1, 2)?;
+    let job = stepped(rt, job, &mut s, 24, 26)?;
+    stepped(rt, job, &mut s, 1, 27)?;
+    Ok(())
 }
 
 // Both jobs, with an empty line between them.
-fn main() {
-    over_a_record();
-    put(10);
-    behind_stuffing();
+fn main(rt: HostRuntime) -> io::Result<()> {
+    over_a_record(&rt)?;
+    put(&rt, 10)?;
+    behind_stuffing(&rt)
 }

@@ -3,9 +3,10 @@
 #![tactic(auto)]
 
 use job::job::Job;
-use libc::{STDIN_FILENO, STDOUT_FILENO};
 use s2xv2::record::S2Xv2SatelliteDeliverySystem;
 use slot::answer::SlotAnswer;
+use std::io;
+use std::io::Read;
 
 // All stores of the job, each by a step of its own.
 fn run(job: Job, s: &mut [u8]) {
@@ -28,33 +29,26 @@ fn run_often(job: Job, s: &mut [u8], n: usize) {
 }
 
 // Writes whether the slot holds a record.
-fn tell(s: &[u8]) {
+fn tell(rt: &impl Print, s: &[u8]) -> io::Result<()> {
     let answer = slot::read::read(s).answer;
     match answer {
         SlotAnswer::Accepted {
             place: _,
             length: _,
-        } => {
-            io::write_all(STDOUT_FILENO, b"record\n");
-        }
-        SlotAnswer::Empty => {
-            io::write_all(STDOUT_FILENO, b"empty\n");
-        }
-        SlotAnswer::Refused(_) => {
-            io::write_all(STDOUT_FILENO, b"refused\n");
-        }
+        } => println!(rt; "record"),
+        SlotAnswer::Empty => println!(rt; "empty"),
+        SlotAnswer::Refused(_) => println!(rt; "refused"),
     }
 }
 
 // Begins a job on an empty slot, runs it as often as there is input, and tells what the slot holds.
-fn main() {
+fn main(rt: HostRuntime) -> io::Result<()> {
     let mut input = [0u8; 64];
-    let got = libc::read(STDIN_FILENO, &mut input);
-    let n = io::count(got, &input);
+    let n = rt.stdin().read(&mut input)?;
     let mut slot = [0u8; 257];
     slot::empty::make_empty(&mut slot);
     let begun = begin::begin(&slot, S2Xv2SatelliteDeliverySystem::default(), &input[0..0]);
     let job = begun.job;
     run_often(job, &mut slot, n);
-    tell(&slot);
+    tell(&rt, &slot)
 }

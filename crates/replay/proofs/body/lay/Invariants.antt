@@ -1,0 +1,10 @@
+-- `replay::body::lay` is safe and ends. The buffer keeps its length; the measure is what is left of the count.
+-- Assumes nothing.
+use Rattle.std.proofs.Common.{◌≡◌, ◌-◌, length}
+use Rattle.replay.proofs.body.lay.Given as goal
+
+abbrev pub invariant-loop-i : goal.invariant-loop-i
+invariant-loop-i l = length l.bytes ≡ length l.initial.bytes
+
+abbrev pub decreases-loop-i : goal.decreases-loop-i
+decreases-loop-i l = l.n - l.i
