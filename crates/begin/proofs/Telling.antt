@@ -6,11 +6,9 @@
 use mathlib.Core.Path.{◌≡◌, refl, sym, ap, ◌∙◌}
 use mathlib.Core.Bool.{Bool, true, false, not, false≢true}
 use mathlib.Core.List.{List, [], ◌∷◌}
-use mathlib.Core.Logic.{⊎_elim}
+use mathlib.Core.Logic.{◌⊎◌, ⊎_elim}
 use Prim.Native.Nat.{ℕ, ◌+◌, ◌≤◌}
 use native.Mathlib.Omega.{arith}
-use denote.Enum.Declared.{tag_of}
-use types.Run.{OneOf}
 use borrow.Author.Tests.{le-ltb, ltb-false, eqb-true, eqb-false}
 use lib.ListN.{length}
 use lib.Dec.{eqb, ltb}
@@ -30,7 +28,6 @@ use Rattle.answers.proofs.Answers.{refused-number, refused}
 use Rattle.form.specs.Form.{good_form, form_of}
 use Rattle.form.specs.declared.good.Form.{Form}
 use Rattle.form.specs.declared.good.Form.TheVariants as F
-use Rattle.form.specs.contracts.good.Form.{the_type}
 use Rattle.form.proofs.Answers.{is_good, good-told}
 use Rattle.job.specs.declared.job.Job.{Job}
 use Rattle.job.specs.Job.{fits_in}
@@ -67,14 +64,8 @@ unfolding begin_told
 told-form s r tail f e = ap (λ (x : Form). form_told x (record_told (length s) r tail)) e
 
 -- the arm of the two forms that are good
-pub good-arm : (s : List ℕ) (f : Form) → f ≡ form_of s → OneOf (2 ∷ 3 ∷ []) (tag_of the_type f) → good_form s ≡ true
-good-arm s f e k = sym (good-told s f e) ∙ by f k
-  where
-    by : (f : Form) → OneOf (2 ∷ 3 ∷ []) (tag_of the_type f) → is_good f ≡ true
-    by F.Size k = absurd (⊎_elim (λ (e : ◌≡◌ {A = ℕ} 0 2). omega arith) (λ (e : ◌≡◌ {A = ℕ} 0 3). omega arith) k)
-    by (F.Broken at) k = absurd (⊎_elim (λ (e : ◌≡◌ {A = ℕ} 1 2). omega arith) (λ (e : ◌≡◌ {A = ℕ} 1 3). omega arith) k)
-    by F.Empty k = refl
-    by (F.Ours at) k = refl
+pub good-arm : (s : List ℕ) (f : Form) → f ≡ form_of s → (f ≡ F.Empty) ⊎ ((x : ℕ) × (f ≡ F.Ours x)) → good_form s ≡ true
+good-arm s f e k = sym (good-told s f e) ∙ ⊎_elim (λ h. ap is_good h) (λ h. ap is_good h.1) k
 
 -- in good form the record is judged, and only there
 in-form : (f : Form) (told : List ℕ) → is_good f ≡ true → told ≡ form_told f told
