@@ -33,9 +33,10 @@ fn byte_held(v: OptionU8) -> u8
     v.or_zero()
 }
 
-// A number that may be absent.
+// A number that may be absent: 0 for one that is.
 fn number_held(v: OptionU32) -> u32
-    ensures { or_zero32 v < 2 ^ 32 }
+    ensures number { result ≡ or_zero32 v }
+    ensures held { or_zero32 v < 2 ^ 32 }
 {
     v.or_zero()
 }
@@ -48,9 +49,10 @@ fn ids_held(ids: [u32; 2]) -> u32
     number(ids[1])
 }
 
-// A superframe block.
+// A superframe block: its plan id.
 fn block_held(f: S2Xv2Superframe) -> u32
-    ensures { HeldBlock f }
+    ensures plan { result ≡ or_zero32 f.beamhopping_time_plan_id }
+    ensures held { HeldBlock f }
 {
     let plan = f.beamhopping_time_plan_id;
     number_held(plan)

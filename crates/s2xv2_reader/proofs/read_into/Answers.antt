@@ -3,7 +3,6 @@
 use mathlib.Core.Path.{ap, ◌∙◌}
 use Rattle.std.specs.Prelude.{◌<◌, ◌≤◌, length}
 use native.Mathlib.Omega.{arith}
-use borrow.Author.Tests.{leb-true}
 use Rattle.s2xv2.specs.Read.{body_size}
 use Rattle.s2xv2.proofs.Sizes.{size-range}
 use Rattle.s2xv2_plain.specs.Output.{numbers_of, bytes_of}
@@ -17,7 +16,7 @@ returns-then-end-ne0 c =
     let s = c.args.sel.now in
     let e = c.put_all-end.ensures in
     let r = reached (length s) (body_size s) _ e.end c.if-end-ne0.true in
-    let h : length s ≤ 4096 = omega (arith, leb-true (length s) _ c.if-have-le4096.true-raw) in
+    let h : length s ≤ 4096 = omega arith in
     let d = shows s r.1 h in
     record {
       end = r.0 ∙ ends s r.1 h;
