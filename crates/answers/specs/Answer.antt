@@ -2,9 +2,9 @@
 -- gives a refusal's number, but `step_told` of `job` for 8. Assumes nothing.
 -- `numbers`    of a refusal
 -- `told`       of an answer
--- `number_of`   the first of them
+-- `number_of`  the first of them
 -- `saturated`  a length as answer 2 tells it
--- `told_now`    the numbers with their count, as they stand in an array
+-- `told_now`   the numbers with their count, as they stand in an array
 use Rattle.std.specs.Prelude.{ℕ, List, [], ◌∷◌, length, get_or, ltb}
 use Rattle.wire.specs.Flags.{when}
 use Rattle.answers.specs.declared.answer.Refusal.{Refusal}

@@ -1,7 +1,7 @@
 -- Values that may be absent. Assumes nothing.
 -- `is_some_bool`, `is_some8`, `is_some32`  whether one is there
--- `selected`                           a flag that is there and set
--- `or_zero8`, `or_zero32`                the number, with 0 for its absence
+-- `selected`                               a flag that is there and set
+-- `or_zero8`, `or_zero32`                  the number, with 0 for its absence
 -- `some_bool_if`, `some8_if`, `some32_if`  a value that a flag says is there
 use Rattle.std.specs.Prelude.{ℕ, Bool, true, false}
 use Rattle.wire.specs.Flags.{when}

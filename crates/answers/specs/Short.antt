@@ -1,6 +1,6 @@
 -- Which part of a body is missing. Assumes nothing.
--- `Need`, `_to_`  the place of a part in answer 1, with the end that a body has to reach for it
--- `short_told`     a refusal at the first part whose end is not reached, or what else is told
+-- `Need`, `◌to◌`  the place of a part in answer 1, with the end that a body has to reach for it
+-- `short_told`    a refusal at the first part whose end is not reached, or what else is told
 use Rattle.std.specs.Prelude.{ℕ, List, [], ◌∷◌, ltb}
 use Rattle.wire.specs.Flags.{when}
 use Rattle.answers.specs.Answer.{numbers}

@@ -1,20 +1,20 @@
 -- What begin answers, and the job that it gives. Assumes nothing.
 -- `staged_size`    how many bytes a job has for its descriptor
--- `padded`        a descriptor as it is staged in these bytes
+-- `padded`         a descriptor as it is staged in these bytes
 -- `new_job`        the job that stores a descriptor, with no store made
 -- `no_job`         what stands where begin is refused
 -- `size_of`        how many bytes the descriptor of a record and its tail takes
 -- `descriptor_of`  the bytes of that descriptor
--- `Sized`         what the private functions require of the sizes, and of the record
--- `Staged`        a descriptor that the writer accepts is staged, and this is its size
+-- `Sized`          what the private functions require of the sizes, and of the record
+-- `Staged`         a descriptor that the writer accepts is staged, and this is its size
 -- `stage_told`     what is told once the descriptor is known to fit
 -- `fit_told`       what is told once its length is known
 -- `record_told`    what is told once the slot is known to be in good form
 -- `form_told`      what is told of a slot, by its form
 -- `begin_told`     what is told of any slot, record and tail
--- `Begins`        an answer in numbers, with the job
+-- `Begins`         an answer in numbers, with the job
 -- `begun_seen`     that of what the call returns
--- `answered`      that of what is told, with the job or `no_job`
+-- `answered`       that of what is told, with the job or `no_job`
 -- `begin_of`       what begin answers for a slot, a record and its tail
 -- `begin_plain`    the same for the record that plain numbers mean
 -- `sized_plain`    that once the slot is known to be in good form

@@ -1,9 +1,9 @@
 -- What a step answers as it crosses. Assumes nothing.
--- `number_in`         the number of its answer
--- `advanced_out`      all but the job
--- `stepped_out`       that and the job
--- `moved_out`         that and the number of stores that the job has made
--- `SteppedInPlace`   what the step in place promises: the answer, the job and the slot afterwards
+-- `number_in`       the number of its answer
+-- `advanced_out`    all but the job
+-- `stepped_out`     that and the job
+-- `moved_out`       that and the number of stores that the job has made
+-- `SteppedInPlace`  what the step in place promises: the answer, the job and the slot afterwards
 use Rattle.std.specs.Prelude.{ℕ, ◌≡◌, List, length, get_or}
 use Rattle.wire.specs.Flags.{bit}
 use Rattle.job.specs.declared.job.Job.{Job}

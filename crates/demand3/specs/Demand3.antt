@@ -1,10 +1,10 @@
 -- What demand 3 claims. Assumes nothing.
--- `Ready`       a slot is in good form, and a record is one that the writer accepts and that fits
+-- `Ready`        a slot is in good form, and a record is one that the writer accepts and that fits
 -- `job_stores`   the stores of the job that is begun there
--- `holds`       what a slot shows that holds a record and its tail
+-- `holds`        what a slot shows that holds a record and its tail
 -- `after_first`  what a slot reads as after the first store alone
 -- `reads_after`  what a slot reads as after k of m stores
--- `due`         that for the stores of a job
+-- `due`          that for the stores of a job
 use Rattle.std.specs.Prelude.{ℕ, ◌+◌, ◌≡◌, true, List, [], ◌∷◌, length, ltb, eqb}
 use Rattle.wire.specs.Flags.{when}
 use Rattle.wire.specs.Widths.{Bytes}

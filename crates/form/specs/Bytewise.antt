@@ -1,9 +1,9 @@
 -- Good form, and what breaks it, over the bytes of a slot alone: nothing here knows the walk. Assumes nothing.
--- `behind`     the place behind the descriptor at a place
+-- `behind`      the place behind the descriptor at a place
 -- `ours_tests`  the tests of a descriptor at a place that is one of ours
 -- `ours_at`     it is one of ours
--- `Upto`       descriptors lead from the first byte to a place
--- `Cause`      the descriptor at a place breaks the form
+-- `Upto`        descriptors lead from the first byte to a place
+-- `Cause`       the descriptor at a place breaks the form
 use Rattle.std.specs.Prelude.{ℕ, ◌+◌, ◌≤◌, ◌<◌, ◌≡◌, Bool, List, [], ◌∷◌, length, leb, eqb}
 use Rattle.std.proofs.Math.Option.{Option, none, some}
 use Rattle.form.specs.Envelope.{tag, extension, stuffing_tag}

@@ -2,7 +2,7 @@
 -- `good_first`     the first descriptor is stuffing, or one of ours
 -- `stuffed_tests`  the tests of stuffing behind a descriptor
 -- `good_rest`      a descriptor ends the slot, or stuffing behind it does
--- `form01`        a slot is in that form
+-- `form01`         a slot is in that form
 use Rattle.std.specs.Prelude.{ℕ, ◌+◌, List, [], ◌∷◌, Bool, ◌||◌, length, eqb}
 use Rattle.form.specs.Envelope.{stuffing_tag}
 use Rattle.form.specs.Form.{byte_at, all, good_size}

@@ -1,8 +1,8 @@
 -- Descriptors as bytes: that of a body, and the stuffing descriptor of EN 300 468. Assumes nothing.
 -- `tag`, `extension`  descriptor_tag and descriptor_tag_extension, in front of a body
--- `stuffing_tag`       the tag of a stuffing descriptor
+-- `stuffing_tag`      the tag of a stuffing descriptor
 -- `filler`            the byte that a stuffing descriptor is filled with
--- `envelope_size`      how many bytes a descriptor has more than its body
+-- `envelope_size`     how many bytes a descriptor has more than its body
 -- `envelope`          the descriptor of a body
 -- `stuffing`          so many bytes that are one stuffing descriptor
 -- `holding`           a slot with a body in its envelope and stuffing behind it

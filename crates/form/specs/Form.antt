@@ -1,22 +1,22 @@
 -- When a slot is in good form, and where its body is (docs/ANSWERS.md, 'Slot and job'). Assumes nothing.
--- `byte_at`      a byte of a slot
--- `all`         every test of a list holds
--- `count`       how many of them hold
--- `good_size`    a slot may have so many bytes
--- `is_stuffing`  a descriptor is stuffing
--- `is_tagged`    a descriptor has our tag
--- `is_ours`      a descriptor is one of ours
--- `form_tests`   the tests of good form
--- `good_form`    a slot is in good form
--- `first_ours`   the offset of the first of ours among descriptors
--- `ours`        the offset of the one of ours in a slot
--- `body_at`      the body of the descriptor at a place
+-- `byte_at`                                        a byte of a slot
+-- `all`                                            every test of a list holds
+-- `count`                                          how many of them hold
+-- `good_size`                                      a slot may have so many bytes
+-- `is_stuffing`                                    a descriptor is stuffing
+-- `is_tagged`                                      a descriptor has our tag
+-- `is_ours`                                        a descriptor is one of ours
+-- `form_tests`                                     the tests of good form
+-- `good_form`                                      a slot is in good form
+-- `first_ours`                                     the offset of the first of ours among descriptors
+-- `ours`                                           the offset of the one of ours in a slot
+-- `body_at`                                        the body of the descriptor at a place
 -- `runs_past`, `foreign`, `length_zero`, `second`  the four causes that a descriptor breaks the form
--- `breaking`    one that lies whole has a cause
--- `breaks_from`  the offset of the first that has one, along the walk
--- `breaks`      where a slot breaks the form
--- `judged`      the form by where it breaks, and where the one of ours starts
--- `form_of`      the form of a slot
+-- `breaking`                                       one that lies whole has a cause
+-- `breaks_from`                                    the offset of the first that has one, along the walk
+-- `breaks`                                         where a slot breaks the form
+-- `judged`                                         the form by where it breaks, and where the one of ours starts
+-- `form_of`                                        the form of a slot
 use Rattle.std.specs.Prelude.{ℕ, suc, ◌+◌, ◌-◌, List, [], ◌∷◌, map, Bool, true, false, not, cond, ◌&&◌, ◌||◌, length, get_or, take, drop, leb, eqb}
 use Rattle.std.proofs.Math.Option.{Option, none, some}
 use Rattle.form.specs.Envelope.{tag, extension, stuffing_tag, envelope_size}

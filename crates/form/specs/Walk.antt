@@ -1,7 +1,7 @@
 -- The walk over the descriptors of any bytes. Assumes nothing.
 -- `Descriptor`   one that lies whole: where its tag stands, its tag, and the bytes behind its length byte
 -- `Walk`         descriptors, one behind the other, and the place where the walk stops
--- `walk_from`     the walk on from a place
+-- `walk_from`    the walk on from a place
 -- `walk`         the walk from the first byte on
 -- `descriptors`  those that a walk meets, in their order
 -- `stop`         where it stops: at the end, at a descriptor that runs past it, or where one byte is left

@@ -1,8 +1,8 @@
 -- The step of a job that is lent. Assumes nothing.
 -- `Tells`          what a step tells but for the job
 -- `tells`          that of a step's answer
--- `advanced_seen`   that of what the call returns
--- `rest_of`         the struct of all but the job
+-- `advanced_seen`  that of what the call returns
+-- `rest_of`        the struct of all but the job
 -- `StepsInPlace`   what the call promises: the answer, the job and the slot afterwards
 use Rattle.std.specs.Prelude.{ℕ, ◌≡◌, List, Bool, length}
 use Rattle.job.specs.declared.job.Job.{Job}

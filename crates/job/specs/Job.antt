@@ -1,19 +1,19 @@
 -- A job: what it stores, how it goes on, and which jobs begin and steps could give. Assumes nothing.
 -- `first_bytes`  the first bytes of a list
--- `descriptor`  the descriptor of a job: the first bytes of what is staged
--- `todo`        all the stores of a job
--- `left`        how many of them are left to make
--- `none`        what stands for a store behind the last
+-- `descriptor`   the descriptor of a job: the first bytes of what is staged
+-- `todo`         all the stores of a job
+-- `left`         how many of them are left to make
+-- `none`         what stands for a store behind the last
 -- `next_store`   the next store
 -- `next_stores`  the next so many stores
 -- `job_of`       a job made of its parts
 -- `with_made`    a job with so many stores made
--- `advanced`    a job with so many more stores made
+-- `advanced`     a job with so many more stores made
 -- `fit_tests`    the tests of a descriptor's size for a slot
 -- `fits_in`      a descriptor fits a slot
 -- `fair_tests`   the tests of a job's numbers for a slot
--- `fair`        begin and steps could give a job its numbers
--- `Fair`        the same as facts
+-- `fair`         begin and steps could give a job its numbers
+-- `Fair`         the same as facts
 use Rattle.std.specs.Prelude.{ℕ, zero, suc, ◌+◌, ◌-◌, ◌≤◌, ◌≡◌, List, [], ◌∷◌, Bool, not, get_or, take, drop, leb, eqb}
 use Rattle.stores.specs.declared.store.Store.{Store}
 use Rattle.stores.specs.Run.{◌at◌}

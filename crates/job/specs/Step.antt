@@ -1,11 +1,11 @@
 -- What a step answers, and what it leaves in the slot. Assumes nothing.
 -- `step_told`   an answer in numbers
--- `Steps`      a whole answer
+-- `Steps`       a whole answer
 -- `step_seen`   that of what the call returns
 -- `moved_seen`  that of what a step returns that has the job in parts
 -- `step_count`  how many stores a step makes
--- `accepts`    what a step answers that is accepted and makes so many stores
--- `refuses`    what a step answers that is refused
+-- `accepts`     what a step answers that is accepted and makes so many stores
+-- `refuses`     what a step answers that is refused
 -- `step_of`     what a step answers, lent a slot of so many bytes
 -- `slot_after`  the slot afterwards
 use Rattle.std.specs.Prelude.{ℕ, min, List, [], ◌∷◌, Bool, false, length, eqb}

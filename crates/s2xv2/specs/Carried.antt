@@ -2,7 +2,7 @@
 -- `carried_block`       that of a superframe block
 -- `carried_superframe`  that of a block that may be absent
 -- `carried_id`          that of an id
--- `carried`            that of a record
+-- `carried`             that of a record
 use Rattle.std.specs.Prelude.{ℕ, List, [], ◌∷◌, get_or, eqb, ltb}
 use Rattle.wire.specs.Flags.{when, only}
 use Rattle.answers.specs.Options.{is_some_bool, selected}

@@ -1,26 +1,26 @@
 -- What a record is written as: a list of parts, each with the widths of EN 300 468, Table 144b, and the values that
 -- stand there. From this one list come the bytes and the length. Assumes nothing.
--- `top_bit`               the top bit of byte 6
--- `core_values`           the values of the core
--- `byte_parts`            the part of one byte that may be absent
--- `scrambling_parts`      the part of the scrambling index
--- `id_parts`              the parts of the ids
--- `bond_parts`            the parts of the bond header and the ids
--- `nibble_of`             what stands in SFFI's place
--- `superframe_values`     the values of a superframe block before the plan id
--- `plan_parts`            the part of the plan id
+-- `top_bit`                the top bit of byte 6
+-- `core_values`            the values of the core
+-- `byte_parts`             the part of one byte that may be absent
+-- `scrambling_parts`       the part of the scrambling index
+-- `id_parts`               the parts of the ids
+-- `bond_parts`             the parts of the bond header and the ids
+-- `nibble_of`              what stands in SFFI's place
+-- `superframe_values`      the values of a superframe block before the plan id
+-- `plan_parts`             the part of the plan id
 -- `superframe_end_values`  the values of a superframe block's last byte
--- `block_parts`           the parts of a superframe block
--- `block_length`          how many bytes they take
--- `superframe_parts`      the parts of a block that may be absent
--- `stream_of`             the stream id of a record, as parts
--- `scrambling_of`         its scrambling index
--- `timeslice_of`          its timeslice
--- `bond_of`               its bonds
--- `superframe_of`         its superframe block
--- `parts_of`              all its parts
--- `encode`               the bytes of a record with a tail
--- `encoded_length`        how many bytes these are
+-- `block_parts`            the parts of a superframe block
+-- `block_length`           how many bytes they take
+-- `superframe_parts`       the parts of a block that may be absent
+-- `stream_of`              the stream id of a record, as parts
+-- `scrambling_of`          its scrambling index
+-- `timeslice_of`           its timeslice
+-- `bond_of`                its bonds
+-- `superframe_of`          its superframe block
+-- `parts_of`               all its parts
+-- `encode`                 the bytes of a record with a tail
+-- `encoded_length`         how many bytes these are
 use Rattle.std.specs.Prelude.{ℕ, zero, suc, ◌+◌, List, [], ◌∷◌, ◌++◌, Bool, length, get_or, eqb}
 use Rattle.wire.specs.Count.{less_one}
 use Rattle.wire.specs.Flags.{when, bit}

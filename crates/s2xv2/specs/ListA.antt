@@ -1,9 +1,9 @@
 -- List A (docs/ANSWERS.md): a record that contradicts itself. Assumes nothing.
 -- `misnamed`       the test of a mode
--- `in_superframe`   a test of a superframe block, made one of a block that may be absent
--- `parts_a`         tests 1 to 7, of mode, flags and parts
--- `superframe_a`    tests 8 and 9, of a superframe block that may be absent
--- `list_a`          all tests in their order
+-- `in_superframe`  a test of a superframe block, made one of a block that may be absent
+-- `parts_a`        tests 1 to 7, of mode, flags and parts
+-- `superframe_a`   tests 8 and 9, of a superframe block that may be absent
+-- `list_a`         all tests in their order
 -- `inconsistency`  the place of the first that holds, or 0 for a consistent record
 use Rattle.std.specs.Prelude.{ℕ, List, [], ◌∷◌, ◌++◌, Bool, false, eqb, ltb}
 use Rattle.answers.specs.Tests.{first_of}

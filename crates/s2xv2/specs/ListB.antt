@@ -4,7 +4,7 @@
 -- `bond_b`        tests 13 and 14, of the bonds
 -- `superframe_b`  tests 15 to 22, of a superframe block that may be absent
 -- `list_b`        all tests in their order
--- `unwritable`   the place of the first that holds, or 0 if none does
+-- `unwritable`    the place of the first that holds, or 0 if none does
 use Rattle.std.specs.Prelude.{ℕ, List, [], ◌∷◌, ◌++◌, Bool, eqb}
 use Rattle.wire.specs.Widths.{wide}
 use Rattle.wire.specs.Flags.{and, not}

@@ -1,13 +1,13 @@
 -- What a body reads as: its parts, its record, and the answer. A part that is not there ends where the part before it
 -- ends, so that it is never the first that is missing. Assumes nothing.
--- `Present`         which parts are there
+-- `Present`          which parts are there
 -- `present_from`     those that the values of a core ask for
 -- `present_in`       those that the core of a body asks for
 -- `stream_end`       where the stream id ends
 -- `scrambling_end`   where the scrambling index ends
 -- `timeslice_end`    where the timeslice ends
 -- `header_end`       where the bond header ends
--- `first_id_end`      where the first id ends
+-- `first_id_end`     where the first id ends
 -- `has_second`       a bond header asks for a second id
 -- `bond_size`        how many bytes the bonds take
 -- `bond_end`         where the bonds end
@@ -18,26 +18,26 @@
 -- `superframe_size`  how many bytes the superframe block takes
 -- `superframe_end`   where the superframe block ends
 -- `body_size`        where the last part ends
--- `needs`           the parts with the ends that the body has to reach
+-- `needs`            the parts with the ends that the body has to reach
 -- `least_total`      how long the whole of a body has to be, by what is there of it
 -- `short_of`         answer 1 of a body that ends inside a part
 -- `superframe_from`  a superframe block made of its values
 -- `plan_at`          the plan id of a block at a byte
 -- `superframe_at`    the superframe block at a byte
--- `stream_id_at`      the stream id at a byte
+-- `stream_id_at`     the stream id at a byte
 -- `timeslice_at`     the timeslice at a byte
 -- `reserved6_at`     what is reserved before the scrambling index
 -- `index_at`         the scrambling index
 -- `reserved7_at`     what is reserved in the bond header
 -- `count_if`         the bonds' count
--- `first_id_at`       the first id
--- `second_id_at`      the second id
+-- `first_id_at`      the first id
+-- `second_id_at`     the second id
 -- `record_from`      a record made of all of these
 -- `record_at`        the record of a body whose parts start as told
 -- `record_of`        the record of a body whose parts stand one behind the other
 -- `record_in`        the record that a body holds
 -- `read_told`        the answer in numbers
--- `Reading`         an answer in numbers, with the record shown
+-- `Reading`          an answer in numbers, with the record shown
 -- `read_of`          that of the reader for a body
 -- `tail_of`          the tail of a body
 use Rattle.std.specs.Prelude.{ℕ, ◌+◌, List, [], ◌∷◌, ◌++◌, Bool, length, drop, eqb, ltb}

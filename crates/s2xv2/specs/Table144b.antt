@@ -1,14 +1,14 @@
 -- EN 300 468, Table 144b: the widths of the fields of each part, in wire order. Reading cuts along these lists and
 -- writing packs along them; nothing else says where a field stands. Assumes nothing.
--- `core`           what every body starts with
--- `stream_id`       the stream id
--- `scrambling`     the scrambling index, and what is reserved before it
--- `timeslice`      the timeslice
--- `bond_header`     the count of the bonds less one, and what is reserved before it
--- `bond_id`         the id of a bond
--- `superframe`     the superframe block before the plan id
--- `plan`           the plan id
--- `last_byte`       the last byte of the superframe block
+-- `core`         what every body starts with
+-- `stream_id`    the stream id
+-- `scrambling`   the scrambling index, and what is reserved before it
+-- `timeslice`    the timeslice
+-- `bond_header`  the count of the bonds less one, and what is reserved before it
+-- `bond_id`      the id of a bond
+-- `superframe`   the superframe block before the plan id
+-- `plan`         the plan id
+-- `last_byte`    the last byte of the superframe block
 use Rattle.std.specs.Prelude.{ℕ, List, [], ◌∷◌}
 
 abbrev pub core : List ℕ

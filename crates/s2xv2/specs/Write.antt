@@ -1,6 +1,6 @@
 -- What the writer answers, and what it leaves in the buffer. Assumes nothing.
 -- `write_told`  its answer in numbers, for a record, a tail and a buffer of so many bytes
--- `written`    the buffer afterwards
+-- `written`     the buffer afterwards
 use Rattle.std.specs.Prelude.{ℕ, List, ◌++◌, length, drop, eqb, ltb}
 use Rattle.wire.specs.Flags.{when}
 use Rattle.answers.specs.Answer.{numbers, told, saturated, number_of}

@@ -1,16 +1,16 @@
 -- A record as lines, each field that is on the wire under the name that the Rust has for it, in wire order. What stands
 -- behind a field that is absent has no line. Assumes nothing.
--- `top_of`            the line of the top bit of byte 6
--- `core_lines`        the lines of the core
--- `core_text`         the text of the core, with the line of the body's length before it
--- `line8`, `line32`   the line of a number that may be absent
--- `scrambling_of`     the lines of the scrambling index and of what is reserved before it
--- `second_of`         the line of the second id
--- `bonds_of`          the lines of the bonds
--- `parts_text`        the text of the parts between the core and the superframe block
--- `nibble_line`       the line of SFFI's place
--- `block_lines`       the lines of a superframe block
--- `superframe_text`   the text of a block that may be absent
+-- `top_of`           the line of the top bit of byte 6
+-- `core_lines`       the lines of the core
+-- `core_text`        the text of the core, with the line of the body's length before it
+-- `line8`, `line32`  the line of a number that may be absent
+-- `scrambling_of`    the lines of the scrambling index and of what is reserved before it
+-- `second_of`        the line of the second id
+-- `bonds_of`         the lines of the bonds
+-- `parts_text`       the text of the parts between the core and the superframe block
+-- `nibble_line`      the line of SFFI's place
+-- `block_lines`      the lines of a superframe block
+-- `superframe_text`  the text of a block that may be absent
 use Rattle.std.specs.Prelude.{ℕ, List, [], ◌∷◌, ◌==◌, slice_index}
 use Rattle.wire.specs.Flags.{when, bit}
 use Rattle.s2xv2.specs.Table144c.{code_of}

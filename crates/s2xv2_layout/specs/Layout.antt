@@ -1,6 +1,6 @@
 -- What `Rattle.s2xv2.specs.Read` says of a body, as the structs of this crate hold it. Assumes nothing.
 -- `present_now`  the parts that its core asks for
--- `asked`       the parts that such a struct names
+-- `asked`        the parts that such a struct names
 -- `ends_now`     where each of them ends
 -- `needs_to`     the ends with their places
 -- `least_to`     the least total by the ends

@@ -1,12 +1,12 @@
 -- What the quick tests find of the bytes of a record, at their places. Assumes nothing.
 -- `word_of`   four bytes as one word, the first the lowest
--- `Word`     a word is that of four bytes, and each of them is one
--- `WordAt`   the same of the bytes from a place on
+-- `Word`      a word is that of four bytes, and each of them is one
+-- `WordAt`    the same of the bytes from a place on
 -- `asked_of`  what a mode asks for, as one word
--- `Agrees`   what is there is what is said to be there, and what the mode asks for
--- `Counted`  the flags by which a length is counted are bits
--- `Packed`   the flags that are packed into bytes are bits, and a scrambling selector that is set is there
--- `Fits`     both, and there are at most two bonds
+-- `Agrees`    what is there is what is said to be there, and what the mode asks for
+-- `Counted`   the flags by which a length is counted are bits
+-- `Packed`    the flags that are packed into bytes are bits, and a scrambling selector that is set is there
+-- `Fits`      both, and there are at most two bonds
 use Rattle.std.specs.Prelude.{ℕ, ◌+◌, ◌*◌, ◌≤◌, ◌<◌, ◌≡◌, List, get_or}
 use Rattle.wire.specs.Flags.{bit}
 use Rattle.s2xv2.specs.Table144c.{mode_of, has_selector, has_timeslice, has_superframe}

@@ -4,7 +4,7 @@
 -- `is_set`    of a flag, whether it is set
 -- `mode_in`   the mode that a flag and a code mean
 -- `block_in`  the superframe block that is meant
--- `meant`    the record that is meant
+-- `meant`     the record that is meant
 use Rattle.std.specs.Prelude.{ℕ, List, [], ◌∷◌, Bool, eqb, get_or}
 use Rattle.wire.specs.Flags.{when, not}
 use Rattle.answers.specs.Options.{some_bool_if, some8_if, some32_if}

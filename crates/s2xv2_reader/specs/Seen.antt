@@ -1,5 +1,5 @@
 -- What a caller sees of a reading. Assumes nothing.
--- `seen`   of `Parsed`, the numbers of its answer and its record
+-- `seen`    of `Parsed`, the numbers of its answer and its record
 -- `end_in`  where the tail starts, by the numbers of an answer
 use Rattle.std.specs.Prelude.{ℕ, List, ◌==◌, slice_index}
 use Rattle.wire.specs.Flags.{when}

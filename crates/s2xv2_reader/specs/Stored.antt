@@ -1,7 +1,7 @@
 -- What each part of a body stores into the two arrays of a lent record, in the order of the stores. The places are those of `numbers_of` and `bytes_of`, which
 -- the contract of `read_into` proves. Assumes nothing.
--- `reach`         where a part ends, or 0 where the body does not reach that
--- `Stored`        what an array then holds, unless that is 0
+-- `reach`          where a part ends, or 0 where the body does not reach that
+-- `Stored`         what an array then holds, unless that is 0
 -- `core_numbers`   the numbers of the core
 -- `field_bytes`    the bytes of the core's fields that mean the same in every mode
 -- `asked_bytes`    those that say what is there, and the top bit of byte 6
@@ -13,7 +13,7 @@
 -- `block_numbers`  the numbers of a superframe block, zeros where there is none
 -- `block_bytes`    its bytes
 -- `block_at`       the superframe block at a byte, if it is there
--- `named`         the parts that the stored bytes of a core say are there
+-- `named`          the parts that the stored bytes of a core say are there
 -- `rest_numbers`   the numbers of all parts behind the core
 -- `rest_bytes`     their bytes
 use Rattle.std.specs.Prelude.{◌≡◌, ℕ, ◌/◌, ◌%◌, Bool, List, set, ◌≢◌, nat_lt, slice_index, slice_set}

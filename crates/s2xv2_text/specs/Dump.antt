@@ -1,7 +1,7 @@
 -- The text of a body, and what the call answers that puts it into a buffer. Assumes nothing.
 -- `body_of`      the text of an accepted body, of its length, its record and its tail's length
 -- `dump_of`      the text of any body
--- `room`        how many bytes the buffer needs
+-- `room`         how many bytes the buffer needs
 -- `dump_told`    what the call answers, in numbers
 -- `dumped_into`  the buffer afterwards
 use Rattle.std.specs.Prelude.{ℕ, List, [], ◌∷◌, ◌++◌, length, drop, ◌==◌, nat_lt}

@@ -1,5 +1,5 @@
 -- Lists of stores. Assumes nothing.
--- `_at_`     a store: a byte at a place
+-- `◌at◌`     a store: a byte at a place
 -- `stored`   a slot after one store
 -- `run`      a slot after all stores of a list
 -- `upwards`  the stores of some bytes, one behind the other

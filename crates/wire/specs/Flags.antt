@@ -1,10 +1,10 @@
 -- Flags, and what goes by them. Assumes nothing.
--- `when`          one of two values, by a flag
--- `only`          a number where a flag is set, else 0
+-- `when`           one of two values, by a flag
+-- `only`           a number where a flag is set, else 0
 -- `bit`, `is_one`  a flag as a bit, and back
--- `and`           both are set
--- `not`           it is clear
--- `differ`        one is set and the other is not
+-- `and`            both are set
+-- `not`            it is clear
+-- `differ`         one is set and the other is not
 -- `joined_of`      the bits of two numbers together
 use Rattle.std.specs.Prelude.{ℕ, Bool, true, false, eqb}
 use Rattle.std.specs.Int.Bits.{bit_or}

@@ -1,6 +1,6 @@
 -- What is written: parts one after the other. Assumes nothing.
 -- `Part`, `◌⦂◌`  some widths with the values that stand there
--- `bytes_of`      the bytes of the parts, and then a tail
+-- `bytes_of`     the bytes of the parts, and then a tail
 -- `sizes`        how many bytes the parts take
 -- `AllFit`       every value is small enough for its width
 use Rattle.std.specs.Prelude.{ℕ, ◌+◌, List, [], ◌∷◌, ◌++◌}

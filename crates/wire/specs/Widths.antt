@@ -1,19 +1,19 @@
 -- A part of the wire is a list of widths, in wire order: reading cuts fields along it, writing packs values along it.
 -- All are `abbrev`s: at numerals they compute to arithmetic of bytes. Assumes nothing.
--- `total`     its size in bits
--- `size`      its size in bytes
+-- `total`      its size in bits
+-- `size`       its size in bytes
 -- `cut_from`   the fields that are cut from some bits on
--- `cut`       the fields that are cut from a byte on
--- `Over`      the type of a function of as many numbers as there are widths
--- `give`      such a function at the values of a list
--- `read`      such a function at the fields that are cut from a byte on
--- `be`        a number as bytes
--- `beside`    a field put behind bits that wait for their byte
+-- `cut`        the fields that are cut from a byte on
+-- `Over`       the type of a function of as many numbers as there are widths
+-- `give`       such a function at the values of a list
+-- `read`       such a function at the fields that are cut from a byte on
+-- `be`         a number as bytes
+-- `beside`     a field put behind bits that wait for their byte
 -- `pack_from`  the values packed behind such bits
--- `pack`      the values packed into bytes
--- `wide`      a value takes more than so many bits
--- `Fit`       values are as many and as small as the widths ask
--- `Bytes`     a list holds bytes
+-- `pack`       the values packed into bytes
+-- `wide`       a value takes more than so many bits
+-- `Fit`        values are as many and as small as the widths ask
+-- `Bytes`      a list holds bytes
 use Rattle.std.specs.Prelude.{ℕ, zero, suc, ◌+◌, ◌*◌, ◌/◌, ◌%◌, ◌^◌, ◌<◌, List, [], ◌∷◌, ◌++◌, Bool, get_or, drop, eqb, leb}
 use Rattle.wire.specs.Flags.{when}
 use Rattle.wire.specs.Bits.{bits}
