@@ -51,9 +51,9 @@ pub after_none : {A : Type 0} (a f e z : A) (m : ℕ) → reads_after a f e z m 
 unfolding reads_after
 after_none a f e z m = refl
 
-pub after_first : {A : Type 0} (a f e z : A) (m : ℕ) → reads_after a f e z m 1 ≡ f
+pub after-first : {A : Type 0} (a f e z : A) (m : ℕ) → reads_after a f e z m 1 ≡ f
 unfolding reads_after
-after_first a f e z m = refl
+after-first a f e z m = refl
 
 pub after-between : {A : Type 0} (a f e z : A) (m k : ℕ) → 1 < k → k < m → reads_after a f e z m k ≡ e
 unfolding reads_after
@@ -78,7 +78,7 @@ module _ {A : Type 0} (Reads : List ℕ → A → Type 0) (n d : ℕ) (s b : Lis
   At k = Reads (run (take k (covered n d middle)) s) (reads_after before first empty last (length middle + 4) k)
 
   one-made : At (suc zero)
-  one-made = rw (after_one n d middle s, after_first before first empty last (length middle + 4)) P.one
+  one-made = rw (after_one n d middle s, after-first before first empty last (length middle + 4)) P.one
 
   -- the cover holds while the middle is stored
   some-made : (m : ℕ) → m ≤ length middle → At (suc (suc m))

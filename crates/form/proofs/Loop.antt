@@ -44,8 +44,8 @@ module _ (s : List ℕ) (at o : ℕ) (u : Upto s at (in_hand (length s) o)) wher
     broke-past l h = by (dec_le (at + 2) (length s))
       where
         by : Dec (at + 2 ≤ length s) → F.Broken at ≡ form_of s
-        by (yes k) = broke (U.runs_past k h)
-        by (no k) = broke (U.one_left (omega arith))
+        by (yes k) = broke (U.runs-past k h)
+        by (no k) = broke (U.one-left (omega arith))
 
     pub broke-second : behind s at ≤ length s → (byte_at s at ≡ stuffing_tag → ⊥) → o < length s → F.Broken at ≡ form_of s
     broke-second h n l = by (ℕ_discrete (byte_at s at) tag)

@@ -34,8 +34,8 @@ module _ (s : List ℕ) (at : ℕ) where
 
   by-fit : (m : Option ℕ) → Upto s at m → at < length s → Dec (behind s at ≤ length s) → Dec (at + 2 ≤ length s) → Turn s at m
   by-fit m u l (yes f) b = by-tag m u f (ℕ_discrete _ _) (ℕ_discrete _ _)
-  by-fit m u l (no f) (yes b) = breaks (U.runs_past b (omega arith))
-  by-fit m u l (no f) (no b) = breaks (U.one_left (omega arith))
+  by-fit m u l (no f) (yes b) = breaks (U.runs-past b (omega arith))
+  by-fit m u l (no f) (no b) = breaks (U.one-left (omega arith))
 
   pub turn : (m : Option ℕ) → Upto s at m → at < length s → Turn s at m
   turn m u l = by-fit m u l (dec_le (behind s at) (length s)) (dec_le (at + 2) (length s))

@@ -53,8 +53,8 @@ module _ (s : List ℕ) (at : ℕ) where
 
   -- a cause at the place is what is told
   pub rest-cause : (m : Option ℕ) → Cause s at m → Rest s at m ≡ F.Broken at
-  rest-cause m (U.one_left e) = rest-stop m (omega arith) (omega arith)
-  rest-cause m (U.runs_past l h) = rest-stop m (omega arith) h
+  rest-cause m (U.one-left e) = rest-stop m (omega arith) (omega arith)
+  rest-cause m (U.runs-past l h) = rest-stop m (omega arith) h
   rest-cause m (U.foreign h a b) = rest-bad m h (breaks-other s at h (met m) a (here-not s at h (λ f. b f.0)))
   rest-cause m (U.other-third h t l x) = rest-bad m h (breaks-other s at h (met m) (λ z. omega arith) (here-not s at h (λ f. x f.1.1)))
   rest-cause m (U.length-zero h t z) = rest-bad m h (breaks-other s at h (met m) (λ y. omega arith) (here-not s at h (λ f. omega arith)))

@@ -29,8 +29,8 @@ pub data Upto (s : List ℕ) : ℕ → Option ℕ → Type 0 where
 -- the descriptor at a place breaks the form, where the one of ours in front of it starts at m: it has one byte left; runs past the end; has a
 -- foreign tag; is a 0x7F with another third byte, or of length 0, or the second one
 pub data Cause (s : List ℕ) (at : ℕ) : Option ℕ → Type 0 where
-  one_left : {m : Option ℕ} → at + 1 ≡ length s → Cause s at m
-  runs_past : {m : Option ℕ} → at + 2 ≤ length s → length s < behind s at → Cause s at m
+  one-left : {m : Option ℕ} → at + 1 ≡ length s → Cause s at m
+  runs-past : {m : Option ℕ} → at + 2 ≤ length s → length s < behind s at → Cause s at m
   foreign : {m : Option ℕ} → behind s at ≤ length s → (byte_at s at ≡ stuffing_tag → ⊥) → (byte_at s at ≡ tag → ⊥) → Cause s at m
   other-third : {m : Option ℕ} → behind s at ≤ length s → byte_at s at ≡ tag → 1 ≤ byte_at s (at + 1) → (byte_at s (at + 2) ≡ extension → ⊥) → Cause s at m
   length-zero : {m : Option ℕ} → behind s at ≤ length s → byte_at s at ≡ tag → byte_at s (at + 1) ≡ 0 → Cause s at m
