@@ -1,6 +1,6 @@
 //! Finds `libs2xv2.a` and tells cargo to link it. The folder is `$S2XV2_LIB`; without that variable it is `target/dist/lib` at the
-//! repository's root, where `dist/make` writes it. Where only `libcapi.a` is there, as `rt staticlib capi` names it, in `$S2XV2_LIB` or in
-//! `target/staticlib`, a copy of it is linked under the library's name.
+//! repository's root, where `dist/make` writes it. Where only `libcapi.a` is there, as `rt lib` in `crates/capi` names it, in
+//! `$S2XV2_LIB` or in `crates/capi/out`, a copy of it is linked under the library's name.
 //!
 //! Nothing fails here: to check or to document the crate takes no archive. Where the archive is not there, or is not for the machine that is
 //! built for, a warning says so, and the linker refuses.
@@ -19,8 +19,8 @@ fn places() -> (PathBuf, PathBuf) {
     match folder("S2XV2_LIB") {
         Some(folder) => (folder.join(NAME), folder.join("libcapi.a")),
         None => {
-            let target = folder("CARGO_MANIFEST_DIR").unwrap_or_default().join("../../target");
-            (target.join("dist/lib").join(NAME), target.join("staticlib/libcapi.a"))
+            let top = folder("CARGO_MANIFEST_DIR").unwrap_or_default().join("../..");
+            (top.join("target/dist/lib").join(NAME), top.join("crates/capi/out/libcapi.a"))
         }
     }
 }
