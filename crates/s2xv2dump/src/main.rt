@@ -3,7 +3,6 @@
 #![tactic(auto)]
 
 use options::Options;
-use std::io;
 
 mod input;
 mod options;
@@ -34,14 +33,13 @@ fn run(rt: &HostRuntime, o: Options) {
 }
 
 // Does what the words of the command line ask for, or says how the program is called.
-fn main(rt: HostRuntime) -> io::Result<()> {
+fn main(rt: HostRuntime) {
     let o = options::given(&rt);
     if o.wrong {
-        usage::wrong(&rt)
+        usage::wrong(&rt);
     } else if o.help {
-        usage::help(&rt)
+        usage::help(&rt);
     } else {
         run(&rt, o);
-        Ok(())
     }
 }

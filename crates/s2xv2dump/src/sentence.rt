@@ -21,6 +21,13 @@ pub(crate) fn say(rt: &HostRuntime, text: &[u8]) {
     put(rt, b"\n");
 }
 
+// Says why the input is no descriptor.
+pub(crate) fn no_descriptor(rt: &HostRuntime, why: &[u8]) {
+    put(rt, b"s2xv2dump: the input is no descriptor of S2Xv2: ");
+    put(rt, why);
+    put(rt, b"\n");
+}
+
 // What an error says, without the system's number of it, which stands at the end.
 fn words_of(text: &str) -> &str {
     match text.split_once(" (os error ") {

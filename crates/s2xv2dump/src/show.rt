@@ -69,31 +69,19 @@ pub(crate) fn descriptor(rt: &HostRuntime, s: &[u8]) {
     let n = s.len();
     // Before the body stand the tag, the length and the extension; behind the length are at most 255 bytes.
     if n < 3 {
-        sentence::say(
-            rt,
-            b"the input is no descriptor of S2Xv2: it has less than 3 bytes",
-        );
+        sentence::no_descriptor(rt, b"it has less than 3 bytes");
         return;
     }
     if 257 < n {
-        sentence::say(
-            rt,
-            b"the input is no descriptor of S2Xv2: it has more than 257 bytes",
-        );
+        sentence::no_descriptor(rt, b"it has more than 257 bytes");
         return;
     }
     if s[0] != TAG {
-        sentence::say(
-            rt,
-            b"the input is no descriptor of S2Xv2: its first byte is not 0x7F",
-        );
+        sentence::no_descriptor(rt, b"its first byte is not 0x7F");
         return;
     }
     if s[2] != EXTENSION {
-        sentence::say(
-            rt,
-            b"the input is no descriptor of S2Xv2: its third byte is not 0x24",
-        );
+        sentence::no_descriptor(rt, b"its third byte is not 0x24");
         return;
     }
     inside(rt, s, wide(s[1]) + 2);
