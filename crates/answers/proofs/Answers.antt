@@ -13,8 +13,7 @@ use Rattle.wire.specs.Flags.{when}
 use Rattle.answers.specs.Answer.{numbers, told, number_of, told_now}
 use Rattle.answers.specs.declared.answer.Refusal.{Refusal}
 use Rattle.answers.specs.declared.answer.Refusal.TheVariants as R
-use Rattle.answers.specs.declared.answer.Answer.{Answer}
-use Rattle.answers.specs.declared.answer.Answer.TheVariants as A
+use Rattle.std.specs.Prelude.{Ok, Err, Result}
 
 pub refusal_of : List ℕ → Refusal
 refusal_of l = go (get_or l 0 0) (get_or l 1 0) (get_or l 2 0) (get_or l 3 0) (get_or l 4 0)
@@ -53,16 +52,16 @@ refused-number (R.SlotForm offset) = refl
 pub refused : (why : Refusal) → number_of (numbers why) ≡ 0 → ⊥
 refused why e = let z : false ≡ true = sym (refused-number why) ∙ eq-eqb _ 0 e in let k : ◌≡◌ {A = ℕ} 0 1 = cc in omega arith
 
-answer_of : List ℕ → Answer
-answer_of l = when (eqb (number_of l) 0) (A.Accepted (get_or l 1 0)) (A.Refused (refusal_of l))
+answer_of : List ℕ → Result ℕ Refusal
+answer_of l = when (eqb (number_of l) 0) (Ok (get_or l 1 0)) (Err (refusal_of l))
 
-answer_back : (a : Answer) → answer_of (told a) ≡ a
+answer_back : (a : Result ℕ Refusal) → answer_of (told a) ≡ a
 unfolding answer_of
-answer_back (A.Accepted n) = refl
-answer_back (A.Refused why) = rw (refused-number why, refusal-back why)
+answer_back (Ok n) = refl
+answer_back (Err why) = rw (refused-number why, refusal-back why)
 
 -- Two answers with the same numbers are equal.
-pub same-told : (a b : Answer) → told a ≡ told b → a ≡ b
+pub same-told : (a b : Result ℕ Refusal) → told a ≡ told b → a ≡ b
 same-told a b e = sym (answer_back a) ∙ ap answer_of e ∙ answer_back b
 
 -- A refusal tells five numbers at most, so that an array of five has them all.

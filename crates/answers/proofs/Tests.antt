@@ -10,7 +10,9 @@ use lib.ListN.{length}
 use lib.Dec.{eqb}
 use borrow.Author.Tests.{ne_eqb}
 use Rattle.wire.specs.Flags.{when}
-use Rattle.answers.specs.Tests.{first_from}
+use Rattle.std.specs.Prelude.{Some, None}
+use Rattle.std.specs.Option.{option_or}
+use Rattle.answers.specs.Tests.{first_from, place_in}
 
 -- no test of the list holds
 abbrev pub Clear : List Bool → Type 0
@@ -40,3 +42,11 @@ pub first-append : (p : ℕ) (ts us : List Bool) → first_from (suc p) (ts ++ u
 first-append p [] us = ap (λ (k : ℕ). first_from k us) (sym (add-zero (suc p)))
 first-append p (true ∷ ts) us = simp (ne_eqb (suc p) 0 (λ d. omega arith))
 first-append p (false ∷ ts) us = first-append (suc p) ts us ∙ ap (λ (k : ℕ). when (eqb (first_from (suc (suc p)) ts) 0) (first_from k us) (first_from (suc (suc p)) ts)) (omega arith)
+
+-- the same of places that may be none
+pub place-append : (p : ℕ) (ts us : List Bool) → place_in (first_from (suc p) (ts ++ us)) ≡ option_or (place_in (first_from (suc p) ts)) (place_in (first_from (suc p + length ts) us))
+place-append p ts us = ap place_in (first-append p ts us) ∙ go (first_from (suc p) ts) (first_from (suc p + length ts) us) (eqb (first_from (suc p) ts) 0) refl
+  where
+    go : (n u : ℕ) (c : Bool) → eqb n 0 ≡ c → place_in (when c u n) ≡ option_or (when c None (Some n)) (place_in u)
+    go n u true e = refl
+    go n u false e = simp e

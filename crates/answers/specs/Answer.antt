@@ -9,9 +9,8 @@ use Rattle.std.specs.Prelude.{ℕ, List, [], ◌∷◌, length, get_or, ltb}
 use Rattle.wire.specs.Flags.{when}
 use Rattle.answers.specs.declared.answer.Refusal.{Refusal}
 use Rattle.answers.specs.declared.answer.Refusal.TheVariants as R
-use Rattle.answers.specs.declared.answer.Answer.{Answer}
-use Rattle.answers.specs.declared.answer.Answer.TheVariants as A
 use Rattle.answers.specs.declared.answer.Told.{Told}
+use Rattle.std.specs.Prelude.{Ok, Err, Result}
 
 abbrev pub numbers : Refusal → List ℕ
 numbers (R.Short place need have least) = 1 ∷ place ∷ need ∷ have ∷ least ∷ []
@@ -23,9 +22,9 @@ numbers R.Slot = 6 ∷ []
 numbers (R.NoFit size) = 7 ∷ size ∷ []
 numbers (R.SlotForm offset) = 12 ∷ offset ∷ []
 
-abbrev pub told : Answer → List ℕ
-told (A.Accepted result) = 0 ∷ result ∷ []
-told (A.Refused why) = numbers why
+abbrev pub told : Result ℕ Refusal → List ℕ
+told (Ok result) = 0 ∷ result ∷ []
+told (Err why) = numbers why
 
 -- the number of an answer
 abbrev pub number_of : List ℕ → ℕ

@@ -1,5 +1,4 @@
 pub mod Answer
 pub mod Short
 pub mod Tests
-pub mod Options
 pub mod Plain

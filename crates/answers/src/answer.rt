@@ -1,9 +1,10 @@
-// What a call answers. `specs/Answer.antt` gives the number of each answer and the numbers that it tells.
+// Why a call refuses: `Result<T, Refusal>` is what it answers. `specs/Answer.antt` gives the number of each answer and the numbers that it tells.
 ghost use Rattle.std.specs.Prelude.{◌≡◌};
 ghost use Rattle.answers.specs.Answer.{numbers, saturated, told_now};
 
-// Why a call was refused: answers 1 to 7, and 12. A step has an answer of its own, which has number 8.
-#[derive(Clone, Copy)]
+// Why a call was refused: answers 1 to 7, and 12. A step has an answer of its own, which has number 8. A place is a number, and no enum of names: docs/ANSWERS.md
+// and the C interface tell it as it is, and the lists of tests count it.
+#[derive(Clone, Copy, PartialEq, Eq)]
 pub enum Refusal {
     // The body ends inside a part: which one, where that part ends, how long the body is, and how long the whole has to be at the least.
     Short {
@@ -41,14 +42,8 @@ pub enum Refusal {
     },
 }
 
-// The answer of a call whose result is a number: where the tail starts, or a length.
-#[derive(Clone, Copy)]
-pub enum Answer {
-    Accepted(usize),
-    Refused(Refusal),
-}
-
-// The numbers that a refusal tells, its own first: how many there are, and these, with 0 behind them.
+// The numbers that a refusal tells, its own first: how many there are, and these, with 0 behind them. An array with its count, since nothing here allocates;
+// what crosses to C takes the first four whatever they are.
 #[derive(Clone, Copy)]
 pub struct Told {
     pub count: usize,
@@ -106,5 +101,5 @@ impl Refusal {
 pub fn saturated(n: usize) -> u16
     ensures { result ≡ saturated n }
 {
-    if 65535 < n { 65535 } else { n as u16 }
+    u16::try_from(n).unwrap_or(u16::MAX)
 }

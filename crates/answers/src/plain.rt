@@ -3,11 +3,11 @@ ghost use Rattle.std.specs.Prelude.{◌≡◌, [], ◌∷◌};
 ghost use Rattle.answers.specs.Answer.{numbers, told};
 ghost use Rattle.answers.specs.Plain.{answer_out};
 
-use crate::answer::{Answer, Refusal, saturated};
+use crate::answer::{Refusal, saturated};
 
 // An answer: its number, and up to four numbers that it tells, 0 where it tells fewer. It goes in two registers.
 #[repr(C)]
-#[derive(Clone, Copy)]
+#[derive(Clone, Copy, PartialEq, Eq)]
 pub struct PlainAnswer {
     pub number: u16,
     pub first: u16,
@@ -18,7 +18,7 @@ pub struct PlainAnswer {
 
 // A part of what was lent: where it starts, and how many bytes it has.
 #[repr(C)]
-#[derive(Clone, Copy)]
+#[derive(Clone, Copy, PartialEq, Eq)]
 pub struct PlainPart {
     pub place: usize,
     pub length: usize,
@@ -53,17 +53,11 @@ pub fn refusal_out(why: Refusal) -> PlainAnswer
 }
 
 // An answer: 0 with the result, or the refusal.
-pub fn answer_out(answer: Answer) -> PlainAnswer
+pub fn answer_out(answer: Result<usize, Refusal>) -> PlainAnswer
     ensures { result ≡ answer_out (told answer) }
 {
     match answer {
-        Answer::Accepted(result) => PlainAnswer {
-            number: 0,
-            first: saturated(result),
-            second: 0,
-            third: 0,
-            fourth: 0,
-        },
-        Answer::Refused(why) => refusal_out(why),
+        Ok(result) => accepted(saturated(result)),
+        Err(why) => refusal_out(why),
     }
 }

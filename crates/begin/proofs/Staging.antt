@@ -67,14 +67,8 @@ module _ {n d : ℕ} {r : S2Xv2SatelliteDeliverySystem} {tail : List ℕ} (S : S
 -- ---- staged in zeros that are lent
 
 module _ (z : List ℕ) (zeros : z ≡ replicate 257 0) where
-  pub lent_length : length z ≡ 257
-  lent_length = ap length zeros
-
   lent-part : mid_of 3 (length z - 3) z ≡ replicate 254 0
   lent-part = ap (λ (l : List ℕ). mid_of 3 (length l - 3) l) zeros
-
-  pub laid-length : (body : List ℕ) → 3 ≤ length (put_mid 3 (length z - 3) z body)
-  laid-length body = rw zeros (omega arith)
 
   laid : (body : List ℕ) (v : ℕ) → set (set (set (put_mid 3 (length z - 3) z body) 0 tag) 1 v) 2 extension ≡ tag ∷ v ∷ extension ∷ (body ++ [])
   laid body v = ap (λ (l : List ℕ). set (set (set (put_mid 3 (length l - 3) l body) 0 tag) 1 v) 2 extension) zeros

@@ -1,6 +1,6 @@
 -- What begin tells, by the way through the code: each test of the definition is one that the code or the writer has made, and a refusal is never number 0.
 -- An answer goes with its job (`refuses`, `accepts`), and both cross (`crossed`). Told are 6 and 12 by the form (`told-form`), 3 and 2 as the length call
--- tells them (`told-length`, `told_fit`, `length-accepted`), 7 (`fit-told`, `told-no-fit`, `told-fits`), and 4 as the writer tells it (`told-field`,
+-- tells them (`told-length`, `told_fit`, `length-accepted`), 7 (`told-no-fit`, `told-fits`), and 4 as the writer tells it (`told-field`,
 -- `told-stores`). In good form, and only there, the record is judged (`told-record`, `accepted-form`).
 -- Assumes nothing.
 use mathlib.Core.Path.{◌≡◌, refl, sym, ap, ◌∙◌}
@@ -31,7 +31,6 @@ use Rattle.form.specs.declared.good.Form.TheVariants as F
 use Rattle.form.proofs.Answers.{is_good, good-told}
 use Rattle.job.specs.declared.job.Job.{Job}
 use Rattle.job.specs.Job.{fits_in}
-use Rattle.job.proofs.Fairness.{facts-fits, not-fits}
 use Rattle.begin.specs.Begin.{new_job, no_job, descriptor_of, Sized, stage_told, fit_told, record_told, form_told, begin_told, Begins, answered, sizes_of}
 
 -- ---- an answer and its job
@@ -121,14 +120,6 @@ length-accepted r tail m e =
     (omega arith, (ltb-false 4096 (encoded_length r tail) b.0, q))
 
 -- ---- 7
-
--- where it is not larger, the gap decides
-pub fit-told : (d n : ℕ) → d ≤ n → not (eqb (d + 1) n) ≡ fits_in d n
-fit-told d n h = go (eqb (d + 1) n) refl
-  where
-    go : (t : Bool) → eqb (d + 1) n ≡ t → not t ≡ fits_in d n
-    go true e = sym (not-fits d n (λ f. f.1 (eqb-true (d + 1) n e)))
-    go false e = sym (facts-fits d n (h, eqb-false (d + 1) n e))
 
 module _ {n d : ℕ} {r : S2Xv2SatelliteDeliverySystem} {tail : List ℕ} (S : Sized n d r tail) where
   pub told-no-fit : fits_in d n ≡ false → 7 ∷ d ∷ [] ≡ fit_told n r tail

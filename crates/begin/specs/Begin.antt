@@ -23,8 +23,8 @@ use Rattle.std.specs.Prelude.{ℕ, ◌+◌, ◌-◌, ◌≤◌, ◌≡◌, List,
 use Rattle.wire.specs.Flags.{when}
 use Rattle.s2xv2.specs.declared.record.S2Xv2SatelliteDeliverySystem.{S2Xv2SatelliteDeliverySystem}
 use Rattle.answers.specs.Answer.{numbers, told, saturated, number_of}
+use Rattle.answers.specs.declared.answer.Refusal.{Refusal}
 use Rattle.answers.specs.declared.answer.Refusal.TheVariants as R
-use Rattle.answers.specs.declared.answer.Answer.TheVariants as A
 use Rattle.s2xv2.specs.Encode.{encode, encoded_length}
 use Rattle.s2xv2.specs.ListA.{inconsistency}
 use Rattle.s2xv2.specs.ListB.{unwritable}
@@ -37,6 +37,7 @@ use Rattle.form.specs.declared.good.Form.TheVariants as F
 use Rattle.job.specs.declared.job.Job.{Job}
 use Rattle.job.specs.Job.{job_of, fits_in}
 use Rattle.begin.specs.declared.Begun.{Begun}
+use Rattle.std.specs.Prelude.{Ok, Err, Result}
 
 -- how many bytes a job has for its descriptor
 abbrev pub staged_size : ℕ
@@ -75,7 +76,7 @@ pub record Staged (d : ℕ) (r : S2Xv2SatelliteDeliverySystem) (tail staged : Li
 
 -- what is told once the descriptor is known to fit a slot of n bytes: 4, else accepted with the number of stores
 unfoldable pub stage_told : ℕ → S2Xv2SatelliteDeliverySystem → List ℕ
-stage_told n r = when (ltb 0 (unwritable r)) (numbers (R.Field (unwritable r))) (told (A.Accepted (n + 2)))
+stage_told n r = when (ltb 0 (unwritable r)) (numbers (R.Field (unwritable r))) (told (Ok (n + 2)))
 
 -- .. once its length is known: 7 before that
 unfoldable pub fit_told : ℕ → S2Xv2SatelliteDeliverySystem → List ℕ → List ℕ
@@ -103,8 +104,9 @@ pub record Begins : Type 0 where
   pub told : List ℕ
   pub job : Job
 
-abbrev pub begun_seen : Begun → Begins
-begun_seen b = record { told = told b.answer; job = b.job }
+abbrev pub begun_seen : Result Begun Refusal → Begins
+begun_seen (Ok b) = record { told = told (Ok b.stores); job = b.job }
+begun_seen (Err why) = record { told = told (Err why); job = no_job }
 
 -- the job goes with number 0, and no job with any other
 abbrev pub answered : List ℕ → ℕ → S2Xv2SatelliteDeliverySystem → List ℕ → Begins

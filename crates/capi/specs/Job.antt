@@ -22,7 +22,7 @@ abbrev pub stepped_out : Steps → PlainStepped
 stepped_out s = record { job = s.job; told = advanced_out s }
 
 abbrev pub moved_out : Steps → PlainMoved
-moved_out s = record { made = s.job.stores_made; stores = s.made; number = number_in s.told; done = bit s.done }
+moved_out s = record { made = s.job.stores_made; told = advanced_out s }
 
 -- of a job and a slot before, with an allowance: what is told, the job after, and the slot after
 pub record SteppedInPlace (before : Job) (slot : List ℕ) (allowance : ℕ) (r : PlainAdvanced) (after : Job) (last : List ℕ) : Type 0 where

@@ -25,16 +25,15 @@ pub extern "C" fn s2xv2_raw_parse(sel: &[u8], w: &mut [u32; 10], b: &mut [u8; 36
 pub extern "C" fn s2xv2_reserved_tail(sel: &[u8]) -> PlainPart
     ensures { (result ≡ tail_part sel.now) × (part_in result sel.now ≡ tail_of sel.now) }
 {
-    let start = s2xv2_reader::tail_start(sel);
-    if start == 0 {
-        return PlainPart {
+    match s2xv2_reader::tail_start(sel) {
+        Some(start) => PlainPart {
+            place: start,
+            length: sel.len() - start,
+        },
+        None => PlainPart {
             place: 0,
             length: 0,
-        };
-    }
-    PlainPart {
-        place: start,
-        length: sel.len() - start,
+        },
     }
 }
 

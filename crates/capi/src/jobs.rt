@@ -1,16 +1,15 @@
 // Beginning a job, and stepping it.
 ghost use Rattle.std.specs.Prelude.{◌≡◌, length};
 ghost use Rattle.answers.specs.Plain.{answer_out};
-ghost use Rattle.job.specs.Step.{step_told, step_of, slot_after};
+ghost use Rattle.job.specs.Step.{step_of, slot_after};
 ghost use Rattle.begin.specs.Begin.{begin_plain, sizes_of};
 ghost use Rattle.job.specs.Job.{job_of};
-ghost use Rattle.capi.specs.Job.{number_in, stepped_out, moved_out, SteppedInPlace};
+ghost use Rattle.capi.specs.Job.{stepped_out, moved_out, SteppedInPlace};
 
 use answers::plain::PlainAnswer;
-use job::job::{Job, StepAnswer};
-use wire::field::bit_of;
+use job::job::Job;
 
-// What a step tells: how many stores it made, 0 or 8, and whether the job has none left, as a flag.
+// What a step tells: how many stores it made, the number of its answer, 0 or 8, and whether the job has none left, as a flag. Numbers, since it crosses to C.
 #[repr(C)]
 #[derive(Clone, Copy)]
 pub struct PlainAdvanced {
@@ -27,7 +26,7 @@ pub struct PlainStepped {
     pub told: PlainAdvanced,
 }
 
-// `begin::begin` of the library, into a job that is lent: its staged bytes, and its three numbers. Stores nothing in the slot.
+// `begin::begin` of the library, into a job that is lent: its staged bytes, and its three numbers, two references, so that C's job is filled where it stands. Stores nothing in the slot.
 #[unsafe(no_mangle)]
 pub extern "C" fn s2xv2_raw_begin(
     s: &[u8],
@@ -44,26 +43,14 @@ pub extern "C" fn s2xv2_raw_begin(
     begin::begin_plain(s, w, b, reserved_tail, staged, sizes)
 }
 
-// The number of a step's answer.
-fn step_number(answer: StepAnswer) -> u8
-    ensures { result ≡ number_in (step_told answer) }
-{
-    match answer {
-        StepAnswer::Accepted => 0,
-        StepAnswer::OtherSize => 8,
-    }
-}
-
 // What a step learns: what it tells, and how many stores the job has made in all.
 #[derive(Clone, Copy)]
 struct PlainMoved {
     made: usize,
-    stores: usize,
-    number: u8,
-    done: u8,
+    told: PlainAdvanced,
 }
 
-// `job::advance::advance` of the library, which lends the staged bytes and takes the job's numbers beside them.
+// `job::advance::advance` of the library, which lends the staged bytes and takes the job's numbers beside them. A step that is refused has number 8.
 fn advanced(
     staged: &[u8; 257],
     n: usize,
@@ -75,13 +62,23 @@ fn advanced(
     ensures told { result ≡ moved_out (step_of (job_of staged.now n d k) (length s.old) allowance) }
     ensures left { s.new ≡ slot_after (job_of staged.now n d k) s.old allowance }
 {
-    let moved = job::advance::advance(staged, n, d, k, s, allowance);
-    let answer = moved.answer;
-    PlainMoved {
-        made: moved.made,
-        stores: moved.stores,
-        number: step_number(answer),
-        done: bit_of(moved.done),
+    match job::advance::advance(staged, n, d, k, s, allowance) {
+        Ok(moved) => PlainMoved {
+            made: moved.made,
+            told: PlainAdvanced {
+                stores: moved.advanced.stores,
+                number: 0,
+                done: u8::from(moved.advanced.done),
+            },
+        },
+        Err(_) => PlainMoved {
+            made: k,
+            told: PlainAdvanced {
+                stores: 0,
+                number: 8,
+                done: 0,
+            },
+        },
     }
 }
 
@@ -95,15 +92,12 @@ pub extern "C" fn s2xv2_step(j: Job, s: &mut [u8], allowance: usize) -> PlainSte
     let d = j.descriptor_size;
     let k = j.stores_made;
     let m = advanced(&j.staged, n, d, k, s, allowance);
-    let mut job = j;
-    job.stores_made = m.made;
     PlainStepped {
-        job,
-        told: PlainAdvanced {
-            stores: m.stores,
-            number: m.number,
-            done: m.done,
+        job: Job {
+            stores_made: m.made,
+            ..j
         },
+        told: m.told,
     }
 }
 
@@ -122,9 +116,5 @@ pub extern "C" fn s2xv2_step_in_place(
     let k = job.stores_made;
     let m = advanced(&job.staged, n, d, k, s, allowance);
     job.stores_made = m.made;
-    PlainAdvanced {
-        stores: m.stores,
-        number: m.number,
-        done: m.done,
-    }
+    m.told
 }

@@ -8,9 +8,8 @@ ghost use Rattle.s2xv2_plain.specs.Output.{numbers_of, bytes_of};
 ghost use Rattle.slot.specs.Part.{slot_part};
 ghost use Rattle.capi.specs.Part.{part_in};
 
-use answers::answer::saturated;
+use answers::answer::{Refusal, saturated};
 use answers::plain::{PlainAnswer, PlainPart, refusal_out};
-use slot::answer::SlotAnswer;
 
 // Accepted with two numbers.
 fn accepted(place: usize, length: usize) -> PlainAnswer
@@ -26,13 +25,13 @@ fn accepted(place: usize, length: usize) -> PlainAnswer
 }
 
 // An answer about a slot: accepted with the tail's place and length, 0 and 0 for an empty slot, or the refusal.
-fn slot_answer_out(answer: SlotAnswer) -> PlainAnswer
+fn slot_answer_out(answer: Result<Option<PlainPart>, Refusal>) -> PlainAnswer
     ensures { result ≡ answer_out (slot_told answer) }
 {
     match answer {
-        SlotAnswer::Accepted { place, length } => accepted(place, length),
-        SlotAnswer::Empty => accepted(0, 0),
-        SlotAnswer::Refused(why) => refusal_out(why),
+        Ok(Some(tail)) => accepted(tail.place, tail.length),
+        Ok(None) => accepted(0, 0),
+        Err(why) => refusal_out(why),
     }
 }
 
@@ -61,6 +60,8 @@ pub extern "C" fn s2xv2_slot_make_empty(s: &mut [u8]) -> PlainAnswer
     ensures told { result ≡ answer_out (empty_told (length s.old)) }
     ensures left { s.new ≡ emptied s.old }
 {
-    let answer = slot::empty::make_empty(s);
-    slot_answer_out(answer)
+    match slot::empty::make_empty(s) {
+        Ok(()) => slot_answer_out(Ok(None)),
+        Err(why) => refusal_out(why),
+    }
 }

@@ -72,9 +72,6 @@ module _ (s : List ℕ) (at : ℕ) where
   unfolding ours_at
   is-there f = sym (each_all (ours_tests s at) (omega (arith, to-tests)))
 
-  pub not_there : (OursThere s at → ⊥) → false ≡ ours_at s at
-  not_there h = fails (ours_at s at) (λ e. h (there-facts e))
-
 -- .. where a descriptor lies whole
 module _ (s : List ℕ) (at : ℕ) (whole : behind s at ≤ length s) where
   content-length : length (descriptor_at s at).content ≡ byte_at s (at + 1)

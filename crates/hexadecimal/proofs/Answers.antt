@@ -1,48 +1,22 @@
--- What the call answers and leaves, by its two tests: each definition picks by them.
--- `other`, `odd`, `sound`  the tests, and what they say of a text
--- `refused`, `taken`       the answer and the buffer then
--- `bytes-within`           no more bytes are stored than the buffer has
--- `example..`              what some texts decode to, or that they are refused
+-- What follows of an answer.
+-- `bytes-within`  no more bytes are stored than the buffer has
+-- `example..`     what some texts decode to, or why they are refused
 -- Assumes nothing.
-use Prim.Native.Nat.{ℕ, ◌+◌, ◌%◌, ◌≤◌, ◌<◌}
-use mathlib.Core.Path.{◌≡◌, refl, ap, ◌∙◌}
+use Prim.Native.Nat.{ℕ, ◌+◌, ◌≤◌}
+use mathlib.Core.Path.{◌≡◌, refl, ◌∙◌}
 use mathlib.Core.Bool.{Bool, true, false}
 use mathlib.Core.List.{List, [], ◌∷◌}
 use native.Mathlib.Omega.{arith}
-use borrow.Author.Tests.{le-leb, lt-leb, eq-eqb, ne_eqb, ltb-true}
+use borrow.Author.Tests.{ltb-true}
 use lib.ListN.{length, set, length-set}
+use Rattle.std.specs.Prelude.{Ok, Err}
 use lib.Dec.{ltb}
 use Rattle.wire.specs.Flags.{when}
-use Rattle.lines.specs.Out.{Out, ◌from◌, put_one, write, Wrote}
+use Rattle.lines.specs.Out.{Out, ◌from◌, put_one, write}
 use Rattle.lines.specs.Line.{codes}
 use Rattle.hexadecimal.specs.Glyph.{is_blank, glyph_of}
-use Rattle.hexadecimal.specs.Text.{digits_of, pairs_of, hex_bytes, other_at, is_sound, answer_of, decoded_into}
-use Rattle.hexadecimal.specs.declared.decode.Decoded.TheVariants as D
-
--- ---- the tests
-pub other : (s : List ℕ) → other_at s < length s → is_sound s ≡ false
-unfolding is_sound
-other s h = rw (lt-leb (length s) (other_at s) h)
-
-module _ (s : List ℕ) (h : length s ≤ other_at s) where
-  pub odd : length (digits_of s) % 2 ≡ 1 → is_sound s ≡ false
-  unfolding is_sound
-  odd e = rw (le-leb (length s) (other_at s) h, ne_eqb (length (digits_of s) % 2) 0 (omega arith))
-
-  pub sound : length (digits_of s) % 2 ≡ 0 → is_sound s ≡ true
-  unfolding is_sound
-  sound e = rw (le-leb (length s) (other_at s) h, eq-eqb (length (digits_of s) % 2) 0 e)
-
--- ---- the answer, and the buffer
-pub refused : (s o : List ℕ) (at : ℕ) → is_sound s ≡ false → at ≡ other_at s
-    → (D.Refused at ≡ answer_of s o) × (o ≡ decoded_into s o)
-unfolding answer_of decoded_into
-refused s o at e a = (rw (e, a), rw e)
-
-pub taken : (s o o' : List ℕ) (n : ℕ) → is_sound s ≡ true → Wrote (o from 0) (hex_bytes s) (o' from n)
-    → (D.Bytes n ≡ answer_of s o) × (o' ≡ decoded_into s o)
-unfolding answer_of decoded_into
-taken s o o' n e w = (rw e (ap (λ (x : Out). D.Bytes x.at) w.is), rw e (ap (λ (x : Out). x.bytes) w.is))
+use Rattle.hexadecimal.specs.Text.{digits_of, pairs_of, hex_bytes, other_at, is_sound, fault_of, answer_of}
+use Rattle.hexadecimal.specs.declared.decode.NotHex.TheVariants as N
 
 -- ---- how many bytes there are
 
@@ -63,15 +37,15 @@ unfolding write put_one Within
 write-within [] n o h = h.0
 write-within (b ∷ bs) n o h = write-within bs n (put_one o b) (put-when (ltb o.at (length o.bytes)) n o b refl h)
 
-pub bytes-within : (s o : List ℕ) (n : ℕ) → D.Bytes n ≡ answer_of s o → n ≤ length o
+pub bytes-within : (s o : List ℕ) (n : ℕ) → Ok n ≡ answer_of s o → n ≤ length o
 unfolding answer_of Within
 bytes-within s o n e = by (is_sound s) e
   where
-    by : (t : Bool) → D.Bytes n ≡ when t (D.Bytes (write (o from 0) (hex_bytes s)).at) (D.Refused (other_at s)) → n ≤ length o
+    by : (t : Bool) → Ok n ≡ when t (Ok (write (o from 0) (hex_bytes s)).at) (Err (fault_of s)) → n ≤ length o
     by true e =
         let q : n ≡ (write (o from 0) (hex_bytes s)).at = cc in
         omega (arith, write-within (hex_bytes s) (length o) (o from 0) (omega arith, refl))
-    by false e = let z : ◌≡◌ {A = ℕ} 0 1 = cc in absurd (omega arith)
+    by false e = cc
 
 -- ---- examples
 pub example : hex_bytes (codes "7f 0 A\n01") ≡ 0x7F ∷ 0x0A ∷ 0x01 ∷ []
@@ -79,9 +53,17 @@ unfolding digits_of pairs_of glyph_of is_blank
 example = refl
 
 pub example-other : other_at (codes "7f 0x") ≡ 4
-unfolding other_at glyph_of is_blank
+unfolding glyph_of is_blank
 example-other = refl
 
+pub example-character : fault_of (codes "7f 0x") ≡ N.Character 4
+unfolding fault_of glyph_of is_blank
+example-character = refl
+
 pub example-half : is_sound (codes "7f 0") ≡ false
-unfolding is_sound digits_of other_at glyph_of is_blank
+unfolding is_sound digits_of glyph_of is_blank
 example-half = refl
+
+pub example-odd : fault_of (codes "7f 0") ≡ N.Odd 4
+unfolding fault_of glyph_of is_blank
+example-odd = refl

@@ -1,4 +1,3 @@
 pub mod Glyphs
 pub mod Texts
-pub mod Pens
 pub mod Answers

@@ -3,6 +3,7 @@
 -- `is_blank`  a space, a tab, a newline or a carriage return
 -- `glyph_of`  a character as a digit, a blank or anything else
 -- `digit_in`  the digit that it is, as a list of one, or of none
+-- `is_digit`  it is a digit
 -- `is_other`  it is neither a digit nor a blank
 use Rattle.std.specs.Prelude.{ℕ, ◌-◌, List, [], ◌∷◌, Bool, true, false, ◌&&◌, ◌||◌, leb, eqb}
 use Rattle.wire.specs.Flags.{when}
@@ -27,6 +28,11 @@ abbrev pub digit_in : Glyph → List ℕ
 digit_in (G.Digit d) = d ∷ []
 digit_in G.Blank = []
 digit_in G.Other = []
+
+abbrev pub is_digit : Glyph → Bool
+is_digit (G.Digit d) = true
+is_digit G.Blank = false
+is_digit G.Other = false
 
 abbrev pub is_other : Glyph → Bool
 is_other (G.Digit d) = false

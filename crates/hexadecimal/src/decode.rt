@@ -1,93 +1,70 @@
 // Text to bytes.
-ghost use Rattle.std.specs.Prelude.{◌≡◌, ◌<◌, ◌∷◌, [], length};
+ghost use Rattle.std.specs.Prelude.{◌≡◌, ◌<◌, ◌∷◌, [], length, position};
 ghost use Rattle.lines.specs.Out.{◌from◌, Wrote};
-ghost use Rattle.hexadecimal.specs.Glyph.{glyph_of, digit_in};
-ghost use Rattle.hexadecimal.specs.Text.{other_at, digits_of, hex_bytes, answer_of, decoded_into};
+ghost use Rattle.lines.specs.Sheet.{Put};
+ghost use Rattle.hexadecimal.specs.Glyph.{glyph_of, digit_in, is_other};
+ghost use Rattle.hexadecimal.specs.Text.{digits_of, hex_bytes, answer_of, decoded_into};
 ghost use Rattle.hexadecimal.specs.Pen.{held_in, Low, Moved};
 
-use crate::glyph::{Glyph, digits_in, glyph_of, is_other};
-use lines::put::put;
+use crate::glyph::{Glyph, glyph_of, is_digit, is_other};
+use lines::sheet::Sheet;
 
-// How many bytes were stored, or why the text was refused.
-#[derive(Clone, Copy)]
-pub enum Decoded {
-    // The bytes of the text stand at the start of the buffer, as far as it reaches: how many they are there.
-    Bytes(usize),
-    // The offset of the first character that is neither a digit nor a blank; or the text's length, if it ends inside a
-    // byte.
-    Refused(usize),
+// Why a text stands for no bytes.
+#[derive(Clone, Copy, PartialEq, Eq)]
+pub enum NotHex {
+    // The first character that is neither a digit nor a blank stands at this offset.
+    Character { at: usize },
+    // The text, of this length, ends inside a byte.
+    Odd { length: usize },
 }
 
-// The first digit of a byte whose second one has not come.
-#[derive(Clone, Copy)]
-enum High {
-    None,
-    Some(u8),
-}
-
-// Where the next byte goes, and its first digit if that has come.
-#[derive(Clone, Copy)]
-struct Pen {
-    at: usize,
-    high: High,
-}
-
-// The offset of the first character that is neither a digit nor a blank, or the text's length.
-fn other_at(text: &[u8]) -> usize
-    ensures { result ≡ other_at text.now }
+// The offset of the first character that is neither a digit nor a blank.
+fn first_other(text: &[u8]) -> Option<usize>
+    ensures { result ≡ position (λ c. is_other (glyph_of c)) text.now }
 {
-    let mut i = 0;
-    while i < text.len() {
-        if is_other(text[i]) {
-            return i;
-        }
-        i += 1;
-    }
-    i
+    text.iter().position(|c| is_other(*c))
 }
 
 // How many digits the text has.
 fn count(text: &[u8]) -> usize
     ensures { result ≡ length (digits_of text.now) }
 {
-    let mut n = 0;
-    let mut i = 0;
-    while i < text.len() {
-        n += digits_in(text[i]);
-        i += 1;
-    }
-    n
+    text.iter().filter(|c| is_digit(**c)).count()
 }
 
-// One more digit: the first of a byte is kept, and the second makes it whole.
-fn add(out: &mut [u8], pen: Pen, d: u8) -> Pen
-    requires { Low (held_in pen.high) × (d < 16) }
-    ensures { Moved out.old pen (d ∷ []) out.new result }
+// One more digit, behind the first one of its byte if that has come: that one is kept, and the second makes the byte whole. Gives what is kept
+// then.
+fn add(sheet: &mut Sheet, high: Option<u8>, d: u8) -> Option<u8>
+    requires { Low (held_in high) × (d < 16) }
+    ensures { Moved sheet.old high (d ∷ []) sheet.new result }
 {
-    let at = pen.at;
-    let high = pen.high;
     match high {
-        High::None => Pen {
-            at,
-            high: High::Some(d),
-        },
-        High::Some(h) => Pen {
-            at: put(out, at, h * 16 + d),
-            high: High::None,
-        },
+        None => Some(d),
+        Some(h) => {
+            sheet.put(h * 16 + d);
+            None
+        }
     }
 }
 
 // One more character.
-fn step(out: &mut [u8], pen: Pen, c: u8) -> Pen
-    requires { Low (held_in pen.high) }
-    ensures { Moved out.old pen (digit_in (glyph_of c)) out.new result }
+fn step(sheet: &mut Sheet, high: Option<u8>, c: u8) -> Option<u8>
+    requires { Low (held_in high) }
+    ensures { Moved sheet.old high (digit_in (glyph_of c)) sheet.new result }
 {
-    let g = glyph_of(c);
-    match g {
-        Glyph::Digit(d) => add(out, pen, d),
-        Glyph::Blank => pen,
-        Glyph::Other => pen,
+    match glyph_of(c) {
+        Glyph::Digit(d) => add(sheet, high, d),
+        Glyph::Blank | Glyph::Other => high,
+    }
+}
+
+// The bytes of the text.
+fn bytes(sheet: &mut Sheet, text: &[u8])
+    ensures { Put sheet.old (hex_bytes text.now) sheet.new }
+{
+    let mut high = None;
+    for c in text {
+        high = step(sheet, high, *c);
     }
 }
 
@@ -95,29 +72,23 @@ fn step(out: &mut [u8], pen: Pen, c: u8) -> Pen
 fn store(text: &[u8], out: &mut [u8]) -> usize
     ensures { Wrote (out.old from 0) (hex_bytes text.now) (out.new from result) }
 {
-    let mut pen = Pen {
-        at: 0,
-        high: High::None,
-    };
-    let mut i = 0;
-    while i < text.len() {
-        pen = step(out, pen, text[i]);
-        i += 1;
-    }
-    pen.at
+    let mut sheet = Sheet::new(out);
+    bytes(&mut sheet, text);
+    sheet.at()
 }
 
-// Puts the bytes that the text stands for at the start of `out`, as far as it reaches. A refused text stores nothing.
-pub fn decode(text: &[u8], out: &mut [u8]) -> Decoded
+// Puts the bytes that the text stands for at the start of `out`, as far as it reaches, and tells how many they are there. A refused text
+// stores nothing.
+#[tactic(auto, using(std::proofs::lemmas::Bool::Decides::nat_tests), unfolding(crate::specs::Text::is_sound, crate::specs::Text::fault_of, crate::specs::Text::answer_of, crate::specs::Text::decoded_into))]
+pub fn decode(text: &[u8], out: &mut [u8]) -> Result<usize, NotHex>
     ensures answer { result ≡ answer_of text.now out.old }
     ensures bytes { out.new ≡ decoded_into text.now out.old }
 {
-    let at = other_at(text);
-    if at < text.len() {
-        return Decoded::Refused(at);
+    if let Some(at) = first_other(text) {
+        return Err(NotHex::Character { at });
     }
     if count(text) % 2 == 1 {
-        return Decoded::Refused(at);
+        return Err(NotHex::Odd { length: text.len() });
     }
-    Decoded::Bytes(store(text, out))
+    Ok(store(text, out))
 }

@@ -5,20 +5,19 @@ use mathlib.Core.List.{List}
 use Prim.Native.Nat.{ℕ}
 use lib.ListN.{length}
 use Rattle.job.specs.declared.job.Job.{Job}
-use Rattle.job.specs.declared.job.StepAnswer.{StepAnswer}
+use Rattle.std.specs.Prelude.{Result}
+use Rattle.job.specs.declared.job.OtherSize.{OtherSize}
+use Rattle.job.specs.declared.job.Advanced.{Advanced}
 use Rattle.job.specs.Step.{step_of, slot_after}
-use Rattle.job.proofs.Equal.{same-step-told}
-use Rattle.in_place.specs.declared.Advanced.{Advanced}
+use Rattle.job.proofs.Equal.{same-answer}
 use Rattle.in_place.specs.Advanced.{Tells, tells, advanced_seen}
 
-same-advanced : (a b : Advanced) → advanced_seen a ≡ advanced_seen b → a ≡ b
-same-advanced a b e =
-    ap {B = Advanced} (λ (x : StepAnswer). record { answer = x; stores = a.stores; done = a.done }) (same-step-told a.answer b.answer (ap (λ (x : Tells). x.told) e))
-    ∙ ap {B = Advanced} (λ (x : Tells). record { answer = b.answer; stores = x.made; done = x.done }) e
+same-advanced : (a b : Result Advanced OtherSize) → advanced_seen a ≡ advanced_seen b → a ≡ b
+same-advanced a b e = same-answer a b (ap (λ (x : Tells). x.told) e) (ap (λ (x : Tells). x.made) e) (ap (λ (x : Tells). x.done) e)
 
 -- `step_in_place`: the answer, the job, and the slot
 module _ (j : Job) (s : List ℕ) (n : ℕ) where
-  pub in-place-equal : (a b : Advanced) → advanced_seen a ≡ tells (step_of j (length s) n) → advanced_seen b ≡ tells (step_of j (length s) n) → a ≡ b
+  pub in-place-equal : (a b : Result Advanced OtherSize) → advanced_seen a ≡ tells (step_of j (length s) n) → advanced_seen b ≡ tells (step_of j (length s) n) → a ≡ b
   in-place-equal a b p q = same-advanced a b (p ∙ sym q)
 
   pub in-place-job-equal : (x y : Job) → x ≡ (step_of j (length s) n).job → y ≡ (step_of j (length s) n).job → x ≡ y

@@ -3,7 +3,8 @@
 use mathlib.Core.Path.{◌≡◌, refl, sym, ap, ◌∙◌}
 use mathlib.Core.Bool.{true, false}
 use mathlib.Core.List.{List}
-use Prim.Native.Nat.{ℕ, ◌+◌, ◌≤◌, ◌<◌}
+use Prim.Native.Nat.{ℕ, ◌+◌, ◌<◌}
+use Rattle.std.specs.Prelude.{Ok, Err}
 use native.Mathlib.Omega.{arith}
 use lib.Dec.{eqb}
 use lib.ListN.{length, get_or, drop, length-drop}
@@ -12,8 +13,8 @@ use Rattle.stores.specs.declared.store.Store.{Store}
 use Rattle.stores.specs.Run.{stored, run}
 use Rattle.stores.proofs.Laws.{run_more}
 use Rattle.job.specs.declared.job.Job.{Job}
-use Rattle.job.specs.declared.job.StepAnswer.TheVariants.{Accepted, OtherSize}
-use Rattle.job.specs.Job.{todo, left, none, next_store, next_stores, advanced, fair, Fair}
+use Rattle.job.specs.declared.job.OtherSize.{OtherSize}
+use Rattle.job.specs.Job.{todo, left, none, next_store, next_stores, with_made, advanced, fair, Fair}
 use Rattle.job.specs.Step.{moved_seen, step_count, step_of, slot_after}
 use Rattle.job.proofs.Places.{todo-length}
 
@@ -22,14 +23,22 @@ pub todo-advanced : (j : Job) (k : ℕ) → todo (advanced j k) ≡ todo j
 unfolding todo
 todo-advanced j k = refl
 
-pub fair-advanced : (j : Job) (i : ℕ) → Fair j → j.stores_made + i ≤ j.slot_size + 2 → Fair (advanced j i)
-fair-advanced j i f h = omega arith
+-- no store more, and one store more
+pub advanced-none : (j : Job) → j ≡ advanced j 0
+advanced-none j = let e : j.stores_made ≡ j.stores_made + 0 = omega arith in ap (λ (k : ℕ). with_made j k) e
+
+pub advanced-more : (j : Job) (i : ℕ) → advanced (advanced j i) 1 ≡ advanced j (i + 1)
+advanced-more j i = let e : j.stores_made + i + 1 ≡ j.stores_made + (i + 1) = omega arith in ap (λ (k : ℕ). with_made j k) e
+
+-- a job that goes on fairly began fairly
+fair-begun : (j : Job) (i : ℕ) → Fair (advanced j i) → Fair j
+fair-begun j i f = omega arith
 
 -- one store more, as a loop makes it
-pub stores-more : (j : Job) (f : Fair j) (i : ℕ) (s : List ℕ) → j.stores_made + i < j.slot_size + 2
+pub stores-more : (j : Job) (i : ℕ) (s : List ℕ) → Fair (advanced j i) → j.stores_made + i < j.slot_size + 2
     → stored (next_store (advanced j i)) (run (next_stores j i) s) ≡ run (next_stores j (i + 1)) s
-stores-more j f i s h =
-    let l : i < length (drop j.stores_made (todo j)) = rw (length-drop, todo-length j f) (omega arith) in
+stores-more j i s f h =
+    let l : i < length (drop j.stores_made (todo j)) = rw (length-drop, todo-length j (fair-begun j i f)) (omega arith) in
     let e : get_or (drop j.stores_made (todo j)) i none ≡ next_store (advanced j i) =
     get_or-drop j.stores_made (todo j) i none ∙ ap (λ (ps : List Store). get_or ps (j.stores_made + i) none) (sym (todo-advanced j i)) in
     ap (λ (p : Store). stored p (run (next_stores j i) s)) (sym e) ∙ sym (run_more (drop j.stores_made (todo j)) i none s l)
@@ -37,7 +46,7 @@ stores-more j f i s h =
 -- ---- what a step answers and leaves
 module _ (j : Job) (s : List ℕ) (a : ℕ) where
   pub accepted : {k : ℕ} → fair j (length s) ≡ true → k ≡ step_count j a
-      → moved_seen j (record { answer = Accepted; stores = k; done = eqb k (left j); made = j.stores_made + k }) ≡ step_of j (length s) a
+      → moved_seen j (Ok (record { made = j.stores_made + k; advanced = record { stores = k; done = eqb k (left j) } })) ≡ step_of j (length s) a
   unfolding step_of
   accepted f e = rw (e, f)
 
@@ -45,9 +54,9 @@ module _ (j : Job) (s : List ℕ) (a : ℕ) where
   unfolding slot_after
   accepted-slot f e q = rw (q, e, f)
 
-  pub refused : fair j (length s) ≡ false → moved_seen j (record { answer = OtherSize; stores = 0; done = false; made = j.stores_made }) ≡ step_of j (length s) a
+  pub refused : (why : OtherSize) → fair j (length s) ≡ false → moved_seen j (Err why) ≡ step_of j (length s) a
   unfolding step_of
-  refused f = rw f
+  refused why f = rw f
 
   pub refused-slot : fair j (length s) ≡ false → s ≡ slot_after j s a
   unfolding slot_after

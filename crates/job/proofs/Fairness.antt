@@ -1,13 +1,12 @@
 -- A fair job as facts and back: each test is an equation, and omega goes between the tests and the facts.
 -- Assumes nothing.
-use mathlib.Core.Path.{◌≡◌, refl, sym, ◌∙◌}
-use mathlib.Core.Bool.{true, false, not, false≢true}
+use mathlib.Core.Path.{◌≡◌, refl, sym}
+use mathlib.Core.Bool.{true, false, not}
 use mathlib.Core.List.{List, []}
 use Prim.Native.Nat.{ℕ, ◌+◌, ◌≤◌}
 use native.Mathlib.Omega.{arith}
 use borrow.Author.Tests.{leb-true, eqb-true, eqb-false, not-true, le-leb, eq-eqb, ne_eqb}
 use lib.Dec.{eqb}
-use Rattle.form.specs.Form.{good_size}
 use Rattle.form.proofs.Tests.{all-each, each_all, fails}
 use Rattle.form.proofs.GoodForm.{size-facts, facts-size}
 use Rattle.job.specs.declared.job.Job.{Job}
@@ -49,10 +48,6 @@ facts-fair j n f =
 -- a job of which one fact is false is not fair
 pub unfair : (j : Job) (n : ℕ) → ((j.slot_size ≡ n) × Fair j → ⊥) → false ≡ fair j n
 unfair j n h = fails (fair j n) (λ e. h (fair-facts j n e))
-
--- nor is one whose slot has a wrong size
-pub not-sized : (j : Job) (n : ℕ) → j.slot_size ≡ n → good_size j.slot_size ≡ false → false ≡ fair j n
-not-sized j n e h = fails (fair j n) (λ q. let f = fair-facts j n q in false≢true (sym h ∙ facts-size j.slot_size (f.1.low, f.1.high)))
 
 -- fairness does not look at the staged bytes
 pub fair-bare : (staged : List ℕ) (n d k have : ℕ) → fair (job_of [] n d k) have ≡ fair (job_of staged n d k) have

@@ -17,6 +17,10 @@ use Rattle.job.specs.Stores.{behind, covered, stores}
 use Rattle.job.specs.Job.{descriptor, todo, next_store, none, Fair}
 use Rattle.job.proofs.Lists.{first-length, first-at, behind-own, behind-stuffing, stores-length, stores-between, stores-size, stores-tag, stores-within}
 
+-- equal jobs have equal numbers
+pub numbers : {i j : Job} → i ≡ j → (i.slot_size ≡ j.slot_size) × (i.descriptor_size ≡ j.descriptor_size) × (i.stores_made ≡ j.stores_made)
+numbers e = (ap (λ (j : Job). j.slot_size) e, ap (λ (j : Job). j.descriptor_size) e, ap (λ (j : Job). j.stores_made) e)
+
 module _ (j : Job) (f : Fair j) where
   pub size_is : length (descriptor j) ≡ j.descriptor_size
   size_is = first-length j.descriptor_size j.staged

@@ -2,7 +2,7 @@
 ghost use Rattle.std.specs.Prelude.{◌≡◌, length};
 ghost use Rattle.job.specs.Step.{step_seen, step_of, slot_after};
 
-use crate::advance::advance;
+use crate::advance::{Moved, advance};
 
 // A job is a value: whoever holds it may step it, keep it or drop it. It crosses to C as it is.
 #[repr(C)]
@@ -17,23 +17,24 @@ pub struct Job {
     pub stores_made: usize,
 }
 
-// Whether a step was accepted; else it is refused with answer 8.
+// The error of a step, answer 8: the slot has another size than at begin, or no begin and steps could give the job's numbers.
+#[derive(Clone, Copy, PartialEq, Eq)]
+pub struct OtherSize;
+
+// What a step tells that is accepted.
 #[derive(Clone, Copy)]
-pub enum StepAnswer {
-    Accepted,
-    // The slot has another size than at begin, or no begin and steps could give the job's numbers.
-    OtherSize,
+pub struct Advanced {
+    // How many stores the step made, and whether the job has none left.
+    pub stores: usize,
+    pub done: bool,
 }
 
-// What a step answers.
+// What a step answers. The job stands beside the answer, and not in it: the requirement hands it back from a refused step too.
 #[derive(Clone, Copy)]
 pub struct Stepped {
     // The job after the step.
     pub job: Job,
-    pub answer: StepAnswer,
-    // How many stores the step made, and whether the job has none left.
-    pub stores: usize,
-    pub done: bool,
+    pub answer: Result<Advanced, OtherSize>,
 }
 
 impl Job {
@@ -50,14 +51,16 @@ impl Job {
             slot,
             allowance,
         );
-        let answer = moved.answer;
-        let mut job = self;
-        job.stores_made = moved.made;
+        let (stores_made, answer) = match moved {
+            Ok(Moved { made, advanced }) => (made, Ok(advanced)),
+            Err(why) => (self.stores_made, Err(why)),
+        };
         Stepped {
-            job,
+            job: Job {
+                stores_made,
+                ..self
+            },
             answer,
-            stores: moved.stores,
-            done: moved.done,
         }
     }
 }

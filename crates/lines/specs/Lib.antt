@@ -1,4 +1,5 @@
 pub mod Out
+pub mod Sheet
 pub mod Number
 pub mod Line
 pub mod Digest

@@ -5,3 +5,4 @@ pub mod digest;
 pub mod line;
 mod number;
 pub mod put;
+pub mod sheet;

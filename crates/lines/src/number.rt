@@ -1,38 +1,41 @@
-// A number in decimal digits.
+// A number in decimal digits. By hand, and not by std's formatting: the clauses say every byte, and of a number from 10^10 on the last ten digits alone.
 ghost use Rattle.std.specs.Prelude.{◌<◌};
-ghost use Rattle.lines.specs.Out.{◌from◌, Wrote};
-ghost use Rattle.lines.specs.Number.{digit_of, three_of, decimal_of};
+ghost use Rattle.lines.specs.Number.{digit_of, decimal_of};
+ghost use Rattle.lines.specs.Sheet.{Put};
 
-use crate::put::put;
+use crate::sheet::Sheet;
 
-// The digit of a power of ten, where the number reaches it.
-fn digit(out: &mut [u8], at: usize, n: u64, power: u64) -> usize
-    requires { 0 < power }
-    ensures { Wrote (out.old from at) (digit_of n power) (out.new from result) }
-{
-    if power <= n {
-        put(out, at, (48 + n / power % 10) as u8)
-    } else {
-        at
+// The powers of ten that a number below 10^10 may reach, from the highest on; the units have their digit in any case.
+const POWERS: [u64; 9] = [
+    1_000_000_000,
+    100_000_000,
+    10_000_000,
+    1_000_000,
+    100_000,
+    10_000,
+    1_000,
+    100,
+    10,
+];
+
+impl Sheet<'_> {
+    // The digit of a power of ten, where the number reaches it.
+    fn digit(&mut self, n: u64, power: u64)
+        requires { 0 < power }
+        ensures { Put self.old (digit_of n power) self.new }
+    {
+        if power <= n {
+            self.put((48 + n / power % 10) as u8);
+        }
     }
-}
 
-// The digits of three powers.
-fn three(out: &mut [u8], at: usize, n: u64, a: u64, b: u64, c: u64) -> usize
-    requires { (0 < a) × (0 < b) × (0 < c) }
-    ensures { Wrote (out.old from at) (three_of n a b c) (out.new from result) }
-{
-    let at = digit(out, at, n, a);
-    let at = digit(out, at, n, b);
-    digit(out, at, n, c)
-}
-
-// All digits of a number below 10^10, and of a larger one the last ten.
-pub(crate) fn decimal(out: &mut [u8], at: usize, n: u64) -> usize
-    ensures { Wrote (out.old from at) (decimal_of n) (out.new from result) }
-{
-    let at = three(out, at, n, 1_000_000_000, 100_000_000, 10_000_000);
-    let at = three(out, at, n, 1_000_000, 100_000, 10_000);
-    let at = three(out, at, n, 1_000, 100, 10);
-    put(out, at, (48 + n % 10) as u8)
+    // All digits of a number below 10^10, and of a larger one the last ten.
+    pub(crate) fn decimal(&mut self, n: u64)
+        ensures { Put self.old (decimal_of n) self.new }
+    {
+        for power in POWERS {
+            self.digit(n, power);
+        }
+        self.put((48 + n % 10) as u8);
+    }
 }

@@ -1,8 +1,9 @@
-// Bytes into a lent buffer, from a place on, as far as the buffer reaches. Each call gives the place behind what it stored.
+// A byte into a lent buffer.
 ghost use Rattle.std.specs.Prelude.{◌∷◌, []};
 ghost use Rattle.lines.specs.Out.{◌from◌, Wrote};
 
-// One byte.
+// One byte at a place, where the buffer reaches that far. Gives the place behind what it stored. It stands beside the sheet, which is no plainer
+// for the single bytes that `replay_jobs` stores at places of its own.
 pub fn put(out: &mut [u8], at: usize, b: u8) -> usize
     ensures { Wrote (out.old from at) (b ∷ []) (out.new from result) }
 {
@@ -12,17 +13,4 @@ pub fn put(out: &mut [u8], at: usize, b: u8) -> usize
     } else {
         at
     }
-}
-
-// All bytes of a text.
-pub fn copy(out: &mut [u8], at: usize, text: &[u8]) -> usize
-    ensures { Wrote (out.old from at) text.now (out.new from result) }
-{
-    let mut next = at;
-    let mut i = 0;
-    while i < text.len() {
-        next = put(out, next, text[i]);
-        i += 1;
-    }
-    next
 }

@@ -1,97 +1,101 @@
-// The bodies of the sets. Each call gives four times the body's length, plus how much longer than it the buffer is into which it is written back.
+// The bodies of the sets.
 use crate::draw::{fill, mode_of, next, seed};
-use lines::put::put;
+
+// A body that stands at the start of a buffer: its length, and how much longer than it the buffer is into which it is written back.
+#[derive(Clone, Copy)]
+pub(crate) struct Made {
+    pub(crate) length: usize,
+    pub(crate) spare: usize,
+}
 
 // What the core asks for, and whether the other bits are set.
 #[derive(Clone, Copy)]
 struct Shape {
-    mode: u32,
-    flag: u32,
-    bond: u32,
-    top: u32,
-    second: u32,
-    hop: u32,
-    full: u32,
+    mode: u8,
+    flag: bool,
+    bond: u8,
+    top: bool,
+    second: bool,
+    hop: bool,
+    full: bool,
 }
 
-// The lowest byte of a number.
-fn low(v: u32) -> u8 {
-    (v % 256) as u8
+// The first bytes of a buffer, as far as it reaches.
+pub(crate) fn front(bytes: &mut [u8], n: usize) -> &mut [u8] {
+    let end = n.min(bytes.len());
+    &mut bytes[..end]
 }
 
-// A byte of a buffer, as far as the buffer reaches.
-fn get(bytes: &[u8], i: usize) -> u8 {
-    if i < bytes.len() { bytes[i] } else { 0 }
+// Whether a number is odd.
+fn odd(v: u32) -> bool {
+    v % 2 == 1
 }
 
-// Makes all bytes of a buffer the same.
-pub(crate) fn cover(bytes: &mut [u8], b: u8) {
-    let mut i = 0;
-    while i < bytes.len() {
-        bytes[i] = b;
-        i += 1;
-    }
+// Some bits, where they are set.
+fn bits_if(set: bool, bits: u8) -> u8 {
+    if set { bits } else { 0 }
 }
 
-// Byte `k`: those after the core are all alike, so that the bond header and the superframe block find their bits wherever they stand.
-fn shaped_byte(s: Shape, k: usize) -> u8 {
-    if k == 4 {
-        return low(s.mode % 16 * 16 + s.flag % 2 * 8 + s.full % 2 * 7);
+impl Shape {
+    // Byte `k`: those after the core are all alike, so that the bond header and the superframe block find their bits wherever they stand.
+    fn byte(self, k: usize) -> u8 {
+        match k {
+            4 => self.mode % 16 * 16 | bits_if(self.flag, 8) | bits_if(self.full, 7),
+            5 => self.bond % 4 * 4 | bits_if(self.full, 243),
+            6 => bits_if(self.top, 128) | bits_if(self.full, 127),
+            0..=17 => bits_if(self.full, 255),
+            _ => bits_if(self.second, 1) | bits_if(self.hop, 64) | bits_if(self.full, 190),
+        }
     }
-    if k == 5 {
-        return low(s.bond % 4 * 4 + s.full % 2 * 243);
-    }
-    if k == 6 {
-        return low(s.top % 2 * 128 + s.full % 2 * 127);
-    }
-    if k < 18 {
-        return low(s.full % 2 * 255);
-    }
-    low(s.second % 2 + s.hop % 2 * 64 + s.full % 2 * 190)
-}
 
-// The first `n` bytes of a shape.
-fn lay(s: Shape, bytes: &mut [u8], n: usize) {
-    let mut i = 0;
-    while i < n {
-        put(bytes, i, shaped_byte(s, i));
-        i += 1;
+    // The first `n` bytes.
+    fn lay(self, bytes: &mut [u8], n: usize) {
+        for (k, b) in bytes.iter_mut().enumerate().take(n) {
+            *b = self.byte(k);
+        }
     }
 }
 
 // Every shape cut at every length.
-pub(crate) fn cut(case: u32, body: &mut [u8]) -> usize {
+pub(crate) fn cut(case: u32, body: &mut [u8]) -> Made {
     let s = case / 46;
     let asked = Shape {
-        mode: s,
-        flag: s / 16,
-        bond: s / 32,
-        top: s / 128,
-        second: s / 256,
-        hop: s / 512,
-        full: s / 1024,
+        mode: (s % 16) as u8,
+        flag: odd(s / 16),
+        bond: (s / 32 % 4) as u8,
+        top: odd(s / 128),
+        second: odd(s / 256),
+        hop: odd(s / 512),
+        full: odd(s / 1024),
     };
-    lay(asked, body, 46);
-    ((case % 46) as usize) * 4 + 1
+    asked.lay(body, 46);
+    Made {
+        length: (case % 46) as usize,
+        spare: 1,
+    }
 }
 
 // The walk over a body's bits: each one turned over alone, the others clear or set.
-pub(crate) fn bit(case: u32, body: &mut [u8]) -> usize {
+pub(crate) fn bit(case: u32, body: &mut [u8]) -> Made {
     let s = case / 360;
     let asked = Shape {
-        mode: s % 8,
-        flag: s / 8,
-        bond: s / 16 % 2,
-        top: s / 32,
-        second: s / 64,
-        hop: s / 64,
-        full: s / 128,
+        mode: (s % 8) as u8,
+        flag: odd(s / 8),
+        bond: (s / 16 % 2) as u8,
+        top: odd(s / 32),
+        second: odd(s / 64),
+        hop: odd(s / 64),
+        full: odd(s / 128),
     };
-    lay(asked, body, 45);
+    asked.lay(body, 45);
     let at = case % 360;
-    let k = (at / 8) as usize;
-    put(body, k, get(body, k) ^ (1 << (at % 8)));
-    180
+    if let Some(b) = body.get_mut((at / 8) as usize) {
+        *b ^= 1 << (at % 8);
+    }
+    Made {
+        length: 45,
+        spare: 0,
+    }
 }
 
 // How long a drawn body is: mostly below 64, in one case of 1,024 longer, half of these at the limit.
@@ -106,37 +110,26 @@ fn length_of(case: u32, draw: u32) -> usize {
     }
 }
 
-// Byte 4 with another mode.
-fn with_mode(b: u8, mode: u32) -> u8 {
-    low(mode % 16 * 16 + (b as u32) % 16)
-}
-
-// Byte 5 with channel_bond 1.
-fn bonded(b: u8) -> u8 {
-    b / 16 * 16 + 4 + b % 4
-}
-
-// The mode, and in every second case a list of bonds.
-fn set_core(case: u32, draw: u32, n: usize, body: &mut [u8]) {
-    if n <= 5 {
+// The mode, and in every second case a list of bonds: channel_bond 1.
+fn set_core(case: u32, draw: u32, body: &mut [u8]) {
+    if body.len() <= 5 {
         return;
     }
-    put(body, 4, with_mode(get(body, 4), mode_of(draw)));
+    body[4] = mode_of(draw) % 16 * 16 | body[4] % 16;
     if case % 2 == 0 {
-        put(body, 5, bonded(get(body, 5)));
+        body[5] = body[5] / 16 * 16 | 4 | body[5] % 4;
     }
-}
-
-// A length and the spare bytes as one number.
-fn made(length: usize, spare: u32) -> usize {
-    length % 65_536 * 4 + (spare % 4) as usize
 }
 
 // Bodies by draws.
-pub(crate) fn drawn(case: u32, body: &mut [u8]) -> usize {
+pub(crate) fn drawn(case: u32, body: &mut [u8]) -> Made {
     let first = next(seed(case));
-    let n = length_of(case, first / 65_536);
-    let x = next(fill(body, n, first));
-    set_core(case, x / 65_536, n, body);
-    made(n, next(x) / 65_536 % 3)
+    let length = length_of(case, first / 65_536);
+    let body = front(body, length);
+    let x = next(fill(body, first));
+    set_core(case, x / 65_536, body);
+    Made {
+        length,
+        spare: (next(x) / 65_536 % 3) as usize,
+    }
 }

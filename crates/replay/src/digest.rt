@@ -1,5 +1,12 @@
-// A digest of what the library answers. Where 2^32 is added to it, each number that goes into it is printed too.
+// A digest of what the library answers, and whether each number that goes into it is printed too.
 use std::io;
+
+// The digest, and whether it shows each number.
+#[derive(Clone, Copy)]
+pub(crate) struct Digest {
+    pub(crate) value: u32,
+    shows: bool,
+}
 
 // A number on a line of its own.
 pub(crate) fn show(rt: &impl Print, v: u32) -> io::Result<()> {
@@ -8,57 +15,46 @@ pub(crate) fn show(rt: &impl Print, v: u32) -> io::Result<()> {
 
 // The bytes of a part, each on a line of its own.
 fn show_bytes(rt: &impl Print, bytes: &[u8]) -> io::Result<()> {
-    let mut i = 0;
-    while i < bytes.len() {
-        show_byte(rt, bytes[i])?;
-        i += 1;
+    for b in bytes {
+        show(rt, u32::from(*b))?;
     }
     Ok(())
 }
 
-// A byte on a line of its own.
-fn show_byte(rt: &impl Print, b: u8) -> io::Result<()> {
-    show(rt, b as u32)
-}
-
-// Whether each number is printed.
-fn shows(d: u64) -> bool {
-    d / 4_294_967_296 % 2 == 1
-}
-
-// The digest itself.
-pub(crate) fn value(d: u64) -> u32 {
-    (d % 4_294_967_296) as u32
-}
-
-// Another digest, which prints as `d` does.
-fn after(d: u64, value: u32) -> u64 {
-    d / 4_294_967_296 % 2 * 4_294_967_296 + (value as u64)
-}
-
-// The digest with one number more.
-pub(crate) fn put(rt: &impl Print, d: u64, v: u32) -> io::Result<u64> {
-    if shows(d) {
-        show(rt, v)?;
+impl Digest {
+    // The digest of nothing.
+    pub(crate) fn empty(shows: bool) -> Digest {
+        Digest { value: 0, shows }
     }
-    Ok(after(d, lines::digest::put(value(d), v)))
-}
 
-// The digest with all bytes of a part more.
-pub(crate) fn put_bytes(rt: &impl Print, d: u64, bytes: &[u8]) -> io::Result<u64> {
-    if shows(d) {
-        show_bytes(rt, bytes)?;
+    // The digest with one number more.
+    pub(crate) fn put(self, rt: &impl Print, v: u32) -> io::Result<Digest> {
+        if self.shows {
+            show(rt, v)?;
+        }
+        Ok(Digest {
+            value: lines::digest::put(self.value, v),
+            ..self
+        })
     }
-    Ok(after(d, lines::digest::put_bytes(value(d), bytes)))
-}
 
-// The digest with all numbers of a list more.
-pub(crate) fn put_all(rt: &impl Print, start: u64, values: &[u32]) -> io::Result<u64> {
-    let mut d = start;
-    let mut i = 0;
-    while i < values.len() {
-        d = put(rt, d, values[i])?;
-        i += 1;
+    // The digest with all bytes of a part more.
+    pub(crate) fn put_bytes(self, rt: &impl Print, bytes: &[u8]) -> io::Result<Digest> {
+        if self.shows {
+            show_bytes(rt, bytes)?;
+        }
+        Ok(Digest {
+            value: lines::digest::put_bytes(self.value, bytes),
+            ..self
+        })
     }
-    Ok(d)
+
+    // The digest with all numbers of a list more.
+    pub(crate) fn put_all(self, rt: &impl Print, values: &[u32]) -> io::Result<Digest> {
+        let mut d = self;
+        for v in values {
+            d = d.put(rt, *v)?;
+        }
+        Ok(d)
+    }
 }

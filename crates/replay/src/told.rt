@@ -1,60 +1,45 @@
-// Answers as numbers: how many there are, then the answer's own number and what it tells, 0 behind them.
-use crate::digest::put;
-use answers::answer::{Answer, Refusal};
+// Answers as numbers: the answer's own number and what it tells.
+use crate::digest::Digest;
+use answers::answer::{Refusal, Told};
 use std::io;
 
+// What a call answers.
+pub(crate) type Answer = Result<usize, Refusal>;
+
 // The low 32 bits of a size.
-fn low(n: usize) -> u32 {
+pub(crate) fn low(n: usize) -> u32 {
     (n % 4_294_967_296) as u32
 }
 
-// A refusal as numbers.
-fn refusal(why: Refusal) -> [u32; 6] {
-    let told = why.told();
-    let n = told.numbers;
-    [
-        low(told.count),
-        low(n[0]),
-        low(n[1]),
-        low(n[2]),
-        low(n[3]),
-        low(n[4]),
-    ]
-}
-
 // An answer as numbers.
-pub(crate) fn told(answer: Answer) -> [u32; 6] {
+fn numbers_of(answer: Answer) -> Told {
     match answer {
-        Answer::Accepted(result) => [2, 0, low(result), 0, 0, 0],
-        Answer::Refused(why) => refusal(why),
+        Ok(size) => Told {
+            count: 2,
+            numbers: [0, size, 0, 0, 0],
+        },
+        Err(why) => why.told(),
     }
 }
 
-// An entry, 0 behind the end.
-fn at(t: &[u32; 6], i: usize) -> u32 {
-    if i < 6 { t[i] } else { 0 }
-}
-
 // Where an answer is counted: by its number, and by its place where it has one.
-pub(crate) fn cell(t: &[u32; 6]) -> u32 {
-    match t[1] {
-        0 => 0,
-        1 => t[2] % 64,
-        2 => 10,
-        3 => 10 + t[2] % 64,
-        4 => 19 + t[2] % 64,
-        _ => 42,
+pub(crate) fn cell(answer: Answer) -> usize {
+    match answer {
+        Ok(_) => 0,
+        Err(Refusal::Short { place, .. }) => usize::from(place),
+        Err(Refusal::Long { .. }) => 10,
+        Err(Refusal::Inconsistent { place }) => 10 + usize::from(place),
+        Err(Refusal::Field { place }) => 19 + usize::from(place),
+        Err(_) => 42,
     }
 }
 
 // An answer, into the digest.
-pub(crate) fn put_told(rt: &impl Print, start: u64, t: &[u32; 6]) -> io::Result<u64> {
-    let n = t[0] % 6;
+pub(crate) fn put_answer(rt: &impl Print, start: Digest, answer: Answer) -> io::Result<Digest> {
+    let told = numbers_of(answer);
     let mut d = start;
-    let mut i: u32 = 0;
-    while i < n {
-        d = put(rt, d, at(t, (i + 1) as usize))?;
-        i += 1;
+    for n in told.numbers.iter().take(told.count) {
+        d = d.put(rt, low(*n))?;
     }
     Ok(d)
 }
@@ -64,45 +49,30 @@ fn word(rt: &impl Print, v: u32) -> io::Result<()> {
     print!(rt; " {v}")
 }
 
-// The numbers, with a space before each.
-pub(crate) fn print(rt: &impl Print, t: &[u32; 6]) -> io::Result<()> {
-    let n = t[0] % 6;
-    let mut i: u32 = 0;
-    while i < n {
-        word(rt, at(t, (i + 1) as usize))?;
-        i += 1;
+// The numbers of an answer, with a space before each.
+pub(crate) fn print(rt: &impl Print, answer: Answer) -> io::Result<()> {
+    let told = numbers_of(answer);
+    for n in told.numbers.iter().take(told.count) {
+        word(rt, low(*n))?;
     }
     Ok(())
 }
 
 // The counts of an answer: those of its cells.
-fn print_row(
-    rt: &impl Print,
-    counts: &[u32; 43],
-    answer: u32,
-    from: usize,
-    to: usize,
-) -> io::Result<()> {
+fn print_row(rt: &impl Print, answer: u32, counts: &[u32]) -> io::Result<()> {
     print!(rt; "{answer}")?;
-    let mut i = from;
-    while i < to {
-        word(rt, count_at(counts, i))?;
-        i += 1;
+    for n in counts {
+        word(rt, *n)?;
     }
     println!(rt; "")
 }
 
-// A count, 0 behind the end.
-fn count_at(counts: &[u32; 43], i: usize) -> u32 {
-    if i < 43 { counts[i] } else { 0 }
-}
-
 // Prints the counts, a line for each answer.
 pub(crate) fn print_counts(rt: &impl Print, counts: &[u32; 43]) -> io::Result<()> {
-    print_row(rt, counts, 0, 0, 1)?;
-    print_row(rt, counts, 1, 1, 10)?;
-    print_row(rt, counts, 2, 10, 11)?;
-    print_row(rt, counts, 3, 11, 20)?;
-    print_row(rt, counts, 4, 20, 42)?;
-    print_row(rt, counts, 5, 42, 43)
+    print_row(rt, 0, &counts[..1])?;
+    print_row(rt, 1, &counts[1..10])?;
+    print_row(rt, 2, &counts[10..11])?;
+    print_row(rt, 3, &counts[11..20])?;
+    print_row(rt, 4, &counts[20..42])?;
+    print_row(rt, 5, &counts[42..])
 }

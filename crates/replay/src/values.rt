@@ -1,130 +1,110 @@
-// Records as plain numbers, in the order of `shown`: by walks over their fields, and by draws. Behind the 42 fields stand the tail's length,
-// the rule for the buffer's length, and a number that the rule uses.
+// Records as plain numbers: by walks over their fields, and by draws. Beside the fields stand the tail's length and the rule for the
+// buffer's length.
 use crate::draw::{draws, mode_of};
+use crate::fields::{
+    BONDS, CHANNEL_BOND, FIELDS, Field, HAS_BLOCK, HAS_INDEX, HAS_PLAN, HAS_SFFI, HAS_STREAM,
+    HAS_TIMESLICE, IS_RESERVED, MODE, PLAN_SELECTOR, SELECTOR, SFFI_SELECTOR, STREAM_FLAG, Values,
+};
 
-// Of each field: the largest number of its type, the largest that the wire carries, and its place in list B, 0 where it has none.
-const FIELDS: [[u32; 3]; 42] = [
-    [4_294_967_295, 4_294_967_295, 0], // 0: delivery_system_id
-    [255, 15, 1], // 1: s2xv2_mode: its code
-    [1, 1, 0], // 2: whether it is held by `Reserved`
-    [1, 1, 0], // 3: multiple_input_stream_flag
-    [255, 7, 2], // 4: roll_off
-    [255, 3, 3], // 5: reserved_zero_future_use_2
-    [1, 1, 0], // 6: ncr_reference
-    [1, 1, 0], // 7: ncr_version
-    [255, 3, 4], // 8: channel_bond
-    [255, 3, 5], // 9: polarization
-    [3, 3, 0], // 10: scrambling_sequence_selector: 0 absent, 1 clear, 2 set
-    [255, 1, 6], // 11: reserved_zero_future_use_1
-    [255, 3, 7], // 12: ts_gs_s2x_mode
-    [255, 31, 8], // 13: receiver_profiles
-    [4_294_967_295, 16_777_215, 9], // 14: satellite_id
-    [4_294_967_295, 4_294_967_295, 0], // 15: frequency
-    [4_294_967_295, 4_294_967_295, 0], // 16: symbol_rate
-    [1, 1, 0], // 17: whether there is an input_stream_identifier
-    [255, 255, 0], // 18: input_stream_identifier
-    [255, 63, 12], // 19: reserved_zero_future_use_6
-    [1, 1, 0], // 20: whether there is a scrambling_sequence_index
-    [4_294_967_295, 262_143, 11], // 21: scrambling_sequence_index
-    [1, 1, 0], // 22: whether there is a timeslice_number
-    [255, 255, 0], // 23: timeslice_number
-    [255, 127, 14], // 24: reserved_zero_future_use_7
-    [4_294_967_295, 4_294_967_295, 0], // 25: the first of secondary_delivery_system_ids
-    [4_294_967_295, 4_294_967_295, 0], // 26: the second
-    [255, 255, 0], // 27: num_channel_bonds
-    [1, 1, 0], // 28: whether there is a superframe
-    [255, 255, 0], // 29: sosf_wh_sequence_number
-    [1, 1, 0], // 30: sffi_selector
-    [1, 1, 0], // 31: beam_hopping_time_plan_selector
-    [255, 3, 17], // 32: its reserved_zero_future_use_2
-    [4_294_967_295, 1_048_575, 15], // 33: reference_scrambling_index
-    [1, 1, 0], // 34: whether there is an sffi
-    [255, 15, 19], // 35: sffi
-    [255, 15, 19], // 36: reserved_zero_future_use_4
-    [4_294_967_295, 1_048_575, 16], // 37: payload_scrambling_index
-    [1, 1, 0], // 38: whether there is a beamhopping_time_plan_id
-    [4_294_967_295, 4_294_967_295, 0], // 39: beamhopping_time_plan_id
-    [255, 31, 21], // 40: superframe_pilots_wh_sequence_number
-    [255, 7, 22], // 41: postamble_pli
-];
-
-// The row of a field; there are 42.
-fn row(i: usize) -> [u32; 3] {
-    if i < 42 { FIELDS[i] } else { [0, 0, 0] }
+// How long the buffer is into which a record is written, beside the record's own length.
+#[derive(Clone, Copy)]
+pub(crate) enum Room {
+    Nothing,
+    OneLess,
+    Exact,
+    OneMore,
+    // One byte more, and so many.
+    More(usize),
+    // So many bytes, however long the record is.
+    Any(usize),
 }
 
-// The low 32 bits of a number.
-fn low(v: u64) -> u32 {
-    (v % 4_294_967_296) as u32
+// A record, how long its tail is, and the rule for its buffer.
+#[derive(Clone, Copy)]
+pub(crate) struct Case {
+    pub(crate) values: Values,
+    pub(crate) tail: usize,
+    pub(crate) room: Room,
 }
 
-// 1 in a mode of one of two codes that is not held by `Reserved`.
-fn in_modes(v: &[u32; 45], a: u32, b: u32) -> u32 {
-    if v[2] != 0 {
-        return 0;
+impl Room {
+    // A rule by draws.
+    fn drawn(draw: u32) -> Room {
+        let spare = (draw / 8) as usize;
+        match draw % 8 {
+            0 => Room::Nothing,
+            1 => Room::OneLess,
+            3 => Room::OneMore,
+            4 => Room::More(spare % 16),
+            5 => Room::Any(spare % 64),
+            _ => Room::Exact,
+        }
     }
-    if v[1] == a || v[1] == b { 1 } else { 0 }
+
+    // The length of the buffer for a record of `n` bytes.
+    pub(crate) fn length(self, n: usize) -> usize {
+        match self {
+            Room::Nothing => 0,
+            Room::OneLess => n.saturating_sub(1),
+            Room::Exact => n,
+            Room::OneMore => n.saturating_add(1),
+            Room::More(spare) => n.saturating_add(1).saturating_add(spare),
+            Room::Any(length) => length,
+        }
+    }
+}
+
+// Whether the record is in a mode of one of two codes that is not held by `Reserved`.
+fn is_in_modes(v: &Values, a: u32, b: u32) -> bool {
+    v[IS_RESERVED] == 0 && (v[MODE] == a || v[MODE] == b)
 }
 
 // The selector, where there is one: 2 for one that is set.
-fn chosen(there: u32, set: u32) -> u32 {
-    if there == 0 {
-        return 0;
-    }
-    if set == 0 { 1 } else { 2 }
+fn chosen(there: bool, set: bool) -> u32 {
+    if there { 1 + u32::from(set) } else { 0 }
 }
 
-// A number, or 0 where the fields are not to be full.
-fn once(full: u32, v: u32) -> u32 {
-    if full == 0 { 0 } else { v }
+// A number, or 0 where the fields are not to be full. `bits_if` of `body` is the same of a byte: a type parameter would not shorten the two.
+fn once(full: bool, v: u32) -> u32 {
+    if full { v } else { 0 }
 }
 
 // Every field at 0, or at its largest.
-fn all(full: u32) -> [u32; 45] {
-    let mut v = [0u32; 45];
-    let mut i = 0;
-    while i < 42 {
-        let r = row(i);
-        v[i] = once(full, r[1]);
-        i += 1;
+fn all(full: bool) -> Values {
+    let mut values = [0; 42];
+    for (v, field) in values.iter_mut().zip(&FIELDS) {
+        *v = once(full, field.largest());
     }
-    v
+    values
 }
 
 // A consistent record with every field at 0, or every field of those that are there at its largest.
-pub(crate) fn plain(mode: u32, full: u32) -> [u32; 45] {
+pub(crate) fn plain(mode: u8, full: bool) -> Values {
     let mut v = all(full);
-    v[1] = mode;
-    v[2] = 0;
-    v[8] = once(full, 1);
-    v[27] = once(full, 2);
-    v[10] = chosen(in_modes(&v, 1, 2), full);
-    v[20] = once(full, in_modes(&v, 1, 2));
-    v[22] = in_modes(&v, 2, 5);
-    v[28] = in_modes(&v, 4, 5);
+    v[MODE] = u32::from(mode);
+    v[IS_RESERVED] = 0;
+    v[CHANNEL_BOND] = once(full, 1);
+    v[BONDS] = once(full, 2);
+    let has_selector = is_in_modes(&v, 1, 2);
+    v[SELECTOR] = chosen(has_selector, full);
+    v[HAS_INDEX] = u32::from(has_selector && full);
+    v[HAS_TIMESLICE] = u32::from(is_in_modes(&v, 2, 5));
+    v[HAS_BLOCK] = u32::from(is_in_modes(&v, 4, 5));
     v
 }
 
-// The weight of a bit, by its number modulo the bits of a type.
-fn weight(bit: u32, largest: u32) -> u32 {
-    match largest {
-        1 => 1,
-        3 => 1 << (bit % 2),
-        255 => 1 << (bit % 8),
-        _ => 1 << (bit % 32),
-    }
-}
-
 // The walk over a record's fields: each bit of each field's type turned over alone, the others at 0 or at their largest.
-pub(crate) fn walk(case: u32) -> [u32; 45] {
-    let field = (case % 42) as usize;
-    let full = case / 21_504 % 2;
-    let mut values = plain(case / 1344 % 16, full);
-    let r = row(field);
-    values[field] = values[field] ^ weight(case / 42 % 32, r[0]);
-    values[42] = full * 3;
-    values[43] = 3;
-    values
+pub(crate) fn walk(case: u32) -> Case {
+    let at = (case % 42) as usize;
+    let full = case / 21_504 % 2 == 1;
+    let mut values = plain((case / 1344 % 16) as u8, full);
+    let bit = case / 42 % 32 % FIELDS[at].bits();
+    values[at] ^= 1 << bit;
+    Case {
+        values,
+        tail: if full { 3 } else { 0 },
+        room: Room::OneMore,
+    }
 }
 
 // Which faults a record has: places of list B by their numbers, and after them those of list A.
@@ -133,73 +113,76 @@ struct Faults(u32, u32);
 
 impl Faults {
     // Whether the record has the fault of this place of list B.
-    fn b(self, place: u32) -> bool {
-        if place == 0 {
-            return false;
-        }
+    fn b(self, place: u8) -> bool {
+        let place = u32::from(place);
         self.0 == place || self.1 == place
     }
 
     // Whether it has the one of this place of list A.
-    fn a(self, place: u32) -> bool {
+    fn a(self, place: u8) -> bool {
         self.b(place % 64 + 22)
+    }
+
+    // Whether it has one of this field.
+    fn of(self, field: Field) -> bool {
+        match field.place() {
+            Some(place) => self.b(place),
+            None => false,
+        }
+    }
+}
+
+// A draw as a number up to the largest.
+fn up_to(largest: u32, draw: u32) -> u32 {
+    match largest.checked_add(1) {
+        Some(room) => draw % room,
+        None => draw,
     }
 }
 
 // A value that the wire can carry; or, where the field is at fault, one at the edge of that.
-fn value(draw: u32, largest: u32, widest: u32, fault: bool) -> u32 {
-    let room = (largest as u64) + 1;
+fn value(field: Field, draw: u32, fault: bool) -> u32 {
+    let largest = field.largest();
     if !fault {
-        return low((draw as u64) % room);
+        return up_to(largest, draw);
     }
     match draw % 4 {
         0 => largest,
-        1 => low(room),
-        2 => low(room + (low((draw as u64) / 4 % room) as u64)),
-        _ => widest,
+        1 => largest.wrapping_add(1),
+        2 => largest
+            .wrapping_add(1)
+            .wrapping_add(up_to(largest, draw / 4)),
+        _ => field.widest(),
     }
 }
 
 // Every field by its draw.
-fn values(d: &[u32; 48], f: Faults) -> [u32; 45] {
-    let mut v = [0u32; 45];
-    let mut i = 0;
-    while i < 42 {
-        let r = row(i);
-        v[i] = value(d[i], r[1], r[0], f.b(r[2]));
-        i += 1;
+fn values(draws: &[u32; 48], f: Faults) -> Values {
+    let mut values = [0; 42];
+    for ((v, field), draw) in values.iter_mut().zip(&FIELDS).zip(draws) {
+        *v = value(*field, *draw, f.of(*field));
     }
-    v
-}
-
-// Whether something is there: the opposite where it is at fault.
-fn toggled(there: u32, fault: bool) -> u32 {
-    if !fault {
-        return there;
-    }
-    if there == 0 { 1 } else { 0 }
+    values
 }
 
 // Whether what stands behind a selector is there: as the selector says, but for a fault of either list.
 fn behind(set: bool, absent: bool, extra: bool) -> u32 {
-    if set {
-        return if absent { 0 } else { 1 };
-    }
-    if extra { 1 } else { 0 }
+    u32::from(if set { !absent } else { extra })
 }
 
 // The mode and channel_bond, which decide on the parts.
-fn set_head(v: &mut [u32; 45], d: &[u32; 48], f: Faults) {
+fn set_head(v: &mut Values, d: &[u32; 48], f: Faults) {
     if !f.b(1) {
-        v[1] = mode_of(d[1]);
+        v[MODE] = u32::from(mode_of(d[MODE]));
     }
-    v[2] = 0;
+    v[IS_RESERVED] = 0;
     if f.a(1) {
-        v[2] = 1;
-        v[1] = d[1] % 6;
+        v[IS_RESERVED] = 1;
+        v[MODE] = d[MODE] % 6;
     }
     if !f.b(4) {
-        v[8] = if d[8] / 4 % 2 == 0 { 1 } else { d[8] % 4 };
+        let draw = d[CHANNEL_BOND];
+        v[CHANNEL_BOND] = if draw / 4 % 2 == 0 { 1 } else { draw % 4 };
     }
 }
 
@@ -212,7 +195,7 @@ fn bonds(bonded: bool, draw: u32, count: bool, extra: bool) -> u32 {
         return 0;
     }
     match draw % 5 {
-        0 => if bonded { 0 } else { 1 },
+        0 => u32::from(!bonded),
         1 => 1,
         2 => 3,
         3 => 255,
@@ -220,20 +203,21 @@ fn bonds(bonded: bool, draw: u32, count: bool, extra: bool) -> u32 {
     }
 }
 
-// Which parts are there.
-fn set_parts(v: &mut [u32; 45], d: &[u32; 48], f: Faults) {
-    v[17] = toggled(v[3], f.a(2));
-    v[10] = chosen(toggled(in_modes(v, 1, 2), f.a(3)), d[10] % 2);
-    v[20] = behind(v[10] == 2, f.b(10), f.a(4));
-    v[22] = toggled(in_modes(v, 2, 5), f.a(5));
-    v[27] = bonds(v[8] == 1, d[27], f.b(13), f.a(6));
-    v[28] = toggled(in_modes(v, 4, 5), f.a(7));
-    v[34] = behind(v[30] == 1, f.b(18), f.a(8));
-    v[38] = behind(v[31] == 1, f.b(20), f.a(9));
+// Which parts are there: at a fault of list A the opposite of what the record asks for.
+fn set_parts(v: &mut Values, d: &[u32; 48], f: Faults) {
+    v[HAS_STREAM] = u32::from((v[STREAM_FLAG] != 0) != f.a(2));
+    v[SELECTOR] = chosen(is_in_modes(v, 1, 2) != f.a(3), d[SELECTOR] % 2 == 1);
+    v[HAS_INDEX] = behind(v[SELECTOR] == 2, f.b(10), f.a(4));
+    v[HAS_TIMESLICE] = u32::from(is_in_modes(v, 2, 5) != f.a(5));
+    v[BONDS] = bonds(v[CHANNEL_BOND] == 1, d[BONDS], f.b(13), f.a(6));
+    v[HAS_BLOCK] = u32::from(is_in_modes(v, 4, 5) != f.a(7));
+    v[HAS_SFFI] = behind(v[SFFI_SELECTOR] == 1, f.b(18), f.a(8));
+    v[HAS_PLAN] = behind(v[PLAN_SELECTOR] == 1, f.b(20), f.a(9));
 }
 
 // How long the tail is: mostly below 8, at times at one of the limits.
-fn tail_length(case: u32, draw: u32) -> u32 {
+fn tail_length(case: u32, draw: u32) -> usize {
+    let draw = draw as usize;
     if case % 8192 == 8191 {
         return 65_480 + draw % 80;
     }
@@ -244,27 +228,15 @@ fn tail_length(case: u32, draw: u32) -> u32 {
 }
 
 // Records by draws.
-pub(crate) fn drawn(case: u32) -> [u32; 45] {
+pub(crate) fn drawn(case: u32) -> Case {
     let d = draws(case);
     let faults = Faults(d[44] % 48, d[45] % 96);
-    let mut v = values(&d, faults);
-    set_head(&mut v, &d, faults);
-    set_parts(&mut v, &d, faults);
-    v[42] = tail_length(case, d[42]);
-    v[43] = d[43] % 8;
-    v[44] = d[43] / 8;
-    v
-}
-
-// The length of the buffer for a record of a length.
-pub(crate) fn room(length: u32, rule: u32, spare: u32) -> usize {
-    let n = (length % 65_536) as usize;
-    match rule {
-        0 => 0,
-        1 => if n == 0 { 0 } else { n - 1 },
-        3 => n + 1,
-        4 => n + 1 + (spare % 16) as usize,
-        5 => (spare % 64) as usize,
-        _ => n,
+    let mut values = values(&d, faults);
+    set_head(&mut values, &d, faults);
+    set_parts(&mut values, &d, faults);
+    Case {
+        values,
+        tail: tail_length(case, d[42]),
+        room: Room::drawn(d[43]),
     }
 }

@@ -1,40 +1,38 @@
-// Slots that begin refuses for their form: made empty, and begun again.
+// What begin answers, and for slots that it refuses for their form: what it answers once they are made empty.
 use crate::print;
-use answers::answer::{Answer, Refusal};
+use answers::answer::Refusal;
+use begin::Begun;
+use job::job::Job;
 use s2xv2::record::S2Xv2SatelliteDeliverySystem;
 use std::io;
 
-// Whether a refusal is for the form.
-fn is_form(why: Refusal) -> bool {
-    match why {
-        Refusal::SlotForm { offset: _ } => true,
-        _ => false,
-    }
-}
+// What begin answers: how many stores the job makes.
+pub(crate) type Answer = Result<usize, Refusal>;
 
-// Whether begin refuses the slot for its form.
-pub(crate) fn is_due(answer: Answer) -> bool {
-    match answer {
-        Answer::Accepted(_) => false,
-        Answer::Refused(why) => is_form(why),
+// What begin answers, and its job: that which no step takes where it refuses.
+pub(crate) fn parted(begun: Result<Begun, Refusal>) -> (Answer, Job) {
+    match begun {
+        Ok(Begun { stores, job }) => (Ok(stores), job),
+        Err(why) => (Err(why), begin::no_job()),
     }
 }
 
 // What begin answers for the default record with a tail.
-fn answered(slot: &[u8], tail: &[u8]) -> Answer {
-    let b = begin::begin(slot, S2Xv2SatelliteDeliverySystem::default(), tail);
-    b.answer
+pub(crate) fn begun_default(slot: &[u8], tail: &[u8]) -> Answer {
+    begin::begin(slot, S2Xv2SatelliteDeliverySystem::default(), tail).map(|begun| begun.stores)
+}
+
+// Whether begin refuses the slot for its form.
+pub(crate) fn is_due(answer: Answer) -> bool {
+    matches!(answer, Err(Refusal::SlotForm { .. }))
 }
 
 // What begin answers once the slot is made empty, for a record that fills it.
 pub(crate) fn begun(slot: &mut [u8]) -> Answer {
-    let tail = [0u8; 236];
-    slot::empty::make_empty(slot);
-    let n = slot.len();
-    if n < 21 || 236 < n - 21 {
-        return answered(slot, &[]);
-    }
-    answered(slot, &tail[0..n - 21])
+    let tail = [0; 236];
+    slot::empty::make_empty(slot)?;
+    let room = slot.len().saturating_sub(21);
+    begun_default(slot, &tail[..room.min(236)])
 }
 
 // Prints that answer, where begin refuses the slot for its form.

@@ -9,8 +9,8 @@ fn other(b: u8, e: usize) -> u8 {
         2 => 0x24,
         3 => 0,
         4 => 1,
-        5 => std::num::wrapping_add_u8(b, 1),
-        6 => std::num::wrapping_sub_u8(b, 1),
+        5 => b.wrapping_add(1),
+        6 => b.wrapping_sub(1),
         _ => (e / 256 % 256) as u8,
     }
 }
@@ -23,8 +23,7 @@ pub(crate) fn damage(slot: &mut [u8], asked: bool, x: u32) {
     }
     let d = draw(x);
     let at = if d % 4 == 0 { d / 4 % 4 } else { d / 4 % n };
-    if at < n {
-        let b = slot[at];
-        slot[at] = other(b, draw(next(x)));
+    if let Some(b) = slot.get_mut(at) {
+        *b = other(*b, draw(next(x)));
     }
 }

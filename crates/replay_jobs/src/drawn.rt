@@ -3,26 +3,26 @@
 // the form is broken, what begin answers once the slot is made empty.
 ghost use Rattle.std.specs.Prelude.{◌<◌, ◌≤◌};
 
+use crate::again;
 use crate::damage::damage;
 use crate::heads::lay_sized;
-use crate::print::word;
-use crate::sample::{count, draw, fill_part, next, seed};
-use crate::{again, seen};
-use answers::answer::Answer;
-use s2xv2::record::S2Xv2SatelliteDeliverySystem;
+use crate::sample::{count, draw, fill, next, seed};
+use crate::seen::{Reading, put_answer, put_reading, put_tail, reading_of};
 use std::io;
 
+// The slots that read as a record, as empty, that answer 6, that answer 1; those that answer 12, by cause, with those last that have none; and
+// those in which begin is accepted once they are made empty.
+type Counts = [u32; 12];
+
 // A size that a slot may have, but for one case in 32.
-fn slot_size(d: usize) -> usize {
-    let kind = d % 64;
-    match kind {
+fn slot_size(d: usize) -> usize
+    ensures { result ≤ 258 }
+{
+    match d % 64 {
         0 => 20,
         1 => 258,
-        _ => if kind < 10 {
-            21 + d / 64 % 237
-        } else {
-            21 + d / 64 % 44
-        },
+        2..=9 => 21 + d / 64 % 237,
+        _ => 21 + d / 64 % 44,
     }
 }
 
@@ -39,8 +39,7 @@ fn cut(size: usize, left: usize) -> usize {
 fn stuffing_size(d: usize, left: usize) -> usize {
     let size = match d % 8 {
         4 => left,
-        5 => 2 + d / 8 % 8,
-        6 => 2 + d / 8 % 8,
+        5 | 6 => 2 + d / 8 % 8,
         7 => 2 + d / 8 % 64,
         _ => 2,
     };
@@ -65,10 +64,9 @@ fn is_ours(x: u32, left: usize, may: bool) -> bool {
 // Lays one of ours with drawn bytes at `at`, and gives its size.
 fn lay_ours(slot: &mut [u8], at: usize, left: usize, x: u32) -> usize {
     let size = ours_size(draw(next(x)), left);
-    if 258 < at {
-        return size;
+    if let Some(part) = slot.get_mut(at..at.saturating_add(size)) {
+        fill(part, next(next(x)) / 65_536);
     }
-    fill_part(slot, at, at + size % 259, next(next(x)) / 65_536);
     lay_sized(slot, at, 0x7F, size);
     size
 }
@@ -83,22 +81,17 @@ fn lay_stuffing(slot: &mut [u8], at: usize, left: usize, x: u32) -> usize {
 // Lays one of ours or stuffing.
 fn lay_one(slot: &mut [u8], at: usize, left: usize, ours: bool, x: u32) -> usize {
     if ours {
-        return lay_ours(slot, at, left, x);
+        lay_ours(slot, at, left, x)
+    } else {
+        lay_stuffing(slot, at, left, x)
     }
-    lay_stuffing(slot, at, left, x)
 }
 
 // A size as one from 1 to 258.
 fn bounded(size: usize) -> usize
     ensures { (0 < result) × (result ≤ 258) }
 {
-    if size == 0 {
-        return 1;
-    }
-    if 258 < size {
-        return 258;
-    }
-    size
+    size.clamp(1, 258)
 }
 
 // Whether one of ours may follow.
@@ -116,6 +109,7 @@ fn cover(slot: &mut [u8], many: bool, start: u32) {
     let mut x = start;
     let mut at = 0;
     let mut may = true;
+    // A `while`: each turn goes on by the size that it drew, which no range or iterator gives.
     while at < n {
         let ours = is_ours(x, n - at, may);
         at += bounded(lay_one(slot, at, n - at, ours, x));
@@ -134,84 +128,60 @@ fn prepare(slot: &mut [u8], case: u32, x: u32) {
     damage(slot, 2 < case % 4, next(next(z)));
 }
 
-// Where a begin in a slot that was made empty is counted: 11, or nowhere if it is refused.
-fn again_cell(answer: Answer) -> usize {
-    match answer {
-        Answer::Accepted(_) => 11,
-        Answer::Refused(_) => 12,
+// Where a reading is counted.
+fn cell(reading: Reading) -> usize {
+    match reading {
+        Reading::Record => 0,
+        Reading::Empty => 1,
+        Reading::OtherSize => 2,
+        Reading::RefusedBody => 3,
+        Reading::Broken(cause) => 4 + cause.place() % 7,
     }
 }
 
-// What begin answers once the slot is made empty, if it refuses the slot for its form.
-fn put_again(d: u32, answer: Answer, slot: &mut [u8], counts: &mut [u32; 12]) -> u32 {
+// What begin answers once the slot is made empty.
+fn put_again(d: u32, slot: &mut [u8], counts: &mut Counts) -> u32 {
+    let answer = again::begun(slot);
+    if answer.is_ok() {
+        count(counts, 11);
+    }
+    put_answer(d, answer)
+}
+
+// What a slot reads as, where its tail stands, what begin answers for the default record, and, where it refuses the slot for its form, what it
+// answers once the slot is made empty.
+fn put_slot(d: u32, slot: &mut [u8], counts: &mut Counts) -> u32 {
+    count(counts, cell(reading_of(slot)));
+    let answer = again::begun_default(slot, &[]);
+    let d = put_answer(put_tail(put_reading(d, slot), slot), answer);
     if again::is_due(answer) {
-        let told = again::begun(slot);
-        count(counts, again_cell(told));
-        return seen::put_answer(d, told);
+        put_again(d, slot, counts)
+    } else {
+        d
     }
-    d
-}
-
-// What a slot reads as, where its tail stands, and what begin answers for the default record.
-fn put_slot(d: u32, slot: &mut [u8], counts: &mut [u32; 12]) -> u32 {
-    let read = seen::put_tail(seen::put_reading(d, slot), slot);
-    let b = begin::begin(slot, S2Xv2SatelliteDeliverySystem::default(), &[]);
-    let answer = b.answer;
-    put_again(seen::put_answer(read, answer), answer, slot, counts)
-}
-
-// A case with its slot.
-fn run_in(d: u32, slot: &mut [u8], case: u32, x: u32, counts: &mut [u32; 12]) -> u32 {
-    prepare(slot, case, x);
-    count(counts, seen::reading_cell(slot));
-    put_slot(d, slot, counts)
 }
 
 // A case.
-fn run(d: u32, case: u32, counts: &mut [u32; 12]) -> u32 {
-    let mut room = [0u8; 258];
+fn run(d: u32, case: u32, counts: &mut Counts) -> u32 {
+    let mut room = [0; 258];
     let x = next(seed(case));
-    let n = slot_size(draw(x));
-    if 258 < n {
-        return d;
-    }
-    run_in(d, &mut room[0..n], case, next(x), counts)
+    let slot = &mut room[..slot_size(draw(x))];
+    prepare(slot, case, next(x));
+    put_slot(d, slot, counts)
 }
 
-// All cases.
-fn run_all(counts: &mut [u32; 12]) -> u32 {
-    let mut d: u32 = 0;
-    let mut case = 0;
-    while case < 131_072 {
-        d = run(d, case, counts);
-        case += 1;
-    }
-    d
-}
-
-// Prints the counts of slots that answer 12, by cause, with those last that have none; and of those in which begin is
-// accepted once they are made empty.
-fn broken(rt: &impl Print, counts: &[u32; 12]) -> io::Result<()> {
-    word(rt, "\nform ", counts[4])?;
-    word(rt, " ", counts[5])?;
-    word(rt, " ", counts[6])?;
-    word(rt, " ", counts[7])?;
-    word(rt, " ", counts[8])?;
-    word(rt, " ", counts[9])?;
-    word(rt, " ", counts[10])?;
-    word(rt, "\nagain ", counts[11])
-}
-
-// Prints the counts of slots that read as a record, as empty, that answer 6, that answer 1, and that answer 12, and the
-// digest.
+// Runs all cases, and prints the counts and the digest.
 pub(crate) fn slots(rt: &impl Print) -> io::Result<()> {
-    let mut counts = [0u32; 12];
-    let d = run_all(&mut counts);
-    word(rt, "slots 131072\n", counts[0])?;
-    word(rt, " ", counts[1])?;
-    word(rt, " ", counts[2])?;
-    word(rt, " ", counts[3])?;
-    broken(rt, &counts)?;
-    word(rt, "\ndigest ", d)?;
-    println!(rt; "")
+    let mut counts = [0; 12];
+    let mut d = 0;
+    for case in 0..131_072 {
+        d = run(d, case, &mut counts);
+    }
+    let [record, empty, size, body, ..] = counts;
+    println!(rt; "slots 131072\n{record} {empty} {size} {body}")?;
+    print!(rt; "form")?;
+    for n in &counts[4..11] {
+        print!(rt; " {n}")?;
+    }
+    println!(rt; "\nagain {}\ndigest {d}", counts[11])
 }

@@ -5,14 +5,14 @@ use lines::put::put;
 
 // A byte of a list, 0 behind its end.
 pub(crate) fn byte_of(list: &[u8], i: usize) -> u8 {
-    if i < list.len() { list[i] } else { 0 }
+    list.get(i).copied().unwrap_or(0)
 }
 
 // The size of a descriptor.
 pub(crate) fn size_of(length: u8) -> usize
     ensures { (0 < result) × (result < 258) }
 {
-    (length as usize) + 2
+    usize::from(length) + 2
 }
 
 // A descriptor's tag and length; of one of ours also its third byte, if its length is not 0.

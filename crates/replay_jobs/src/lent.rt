@@ -9,11 +9,6 @@ use job::job::{Job, Stepped};
 pub(crate) fn step_lent(mut job: Job, slot: &mut [u8], allowance: usize) -> Stepped
     ensures { (step_seen result ≡ step_of job (length slot.old) allowance) × (slot.new ≡ slot_after job slot.old allowance) }
 {
-    let a = step_in_place(&mut job, slot, allowance);
-    Stepped {
-        job,
-        answer: a.answer,
-        stores: a.stores,
-        done: a.done,
-    }
+    let answer = step_in_place(&mut job, slot, allowance);
+    Stepped { job, answer }
 }

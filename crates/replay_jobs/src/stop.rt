@@ -1,74 +1,58 @@
 // A job on a slot, stopped after a number of stores.
+ghost use Rattle.std.specs.Prelude.{◌≡◌, length};
+
 use crate::lent::step_lent;
-use crate::print::{bit, number};
-use crate::seen::{put_answer, put_reading, put_size};
+use crate::print::step_told;
+use crate::seen::{put_reading, put_size};
 use crate::start::whole_job;
-use answers::answer::Answer;
-use job::job::{Job, Stepped};
+use answers::answer::Refusal;
+use begin::Begun;
+use job::job::{Advanced, Job, OtherSize};
 use lines::digest::{put, put_bytes};
-use lines::put::copy;
+use s2xv2::record::S2Xv2SatelliteDeliverySystem;
 
-// What begin answers.
-pub(crate) fn begin_told(d: u32, slot: &[u8], body: &[u8]) -> u32 {
-    put_answer(d, begun(slot, body))
-}
-
-// What begin answers for the record and tail of a body.
-fn begun(slot: &[u8], body: &[u8]) -> Answer {
-    let read = s2xv2_reader::parse(body);
-    let record = read.body;
-    let tail = s2xv2_reader::reserved_tail(body);
-    let b = begin::begin(slot, record, tail);
-    b.answer
-}
-
-// Whether begin is accepted: 0, or else 1.
-pub(crate) fn begin_cell(slot: &[u8], body: &[u8]) -> usize {
-    let answer = begun(slot, body);
-    match answer {
-        Answer::Accepted(_) => 0,
-        Answer::Refused(_) => 1,
-    }
-}
-
-// The job that begin gives for them.
-fn job_for(slot: &[u8], body: &[u8]) -> Job {
-    let read = s2xv2_reader::parse(body);
-    let record = read.body;
-    let tail = s2xv2_reader::reserved_tail(body);
-    let b = begin::begin(slot, record, tail);
-    b.job
+// What begin answers for the record and tail of a body: the default record for one that is refused.
+pub(crate) fn begun(slot: &[u8], body: &[u8]) -> Result<Begun, Refusal> {
+    let record = match s2xv2_reader::parse(body) {
+        Ok(parsed) => parsed.body,
+        Err(_) => S2Xv2SatelliteDeliverySystem::default(),
+    };
+    begin::begin(slot, record, s2xv2_reader::reserved_tail(body))
 }
 
 // Two steps of a job that is lent: half of the stores, and the others.
-fn step_in_two(job: Job, slot: &mut [u8], allowance: usize) -> Stepped {
+fn step_in_two(job: Job, slot: &mut [u8], allowance: usize) -> Result<Advanced, OtherSize> {
     let half = allowance / 2;
     let first = step_lent(job, slot, half);
-    let stepped = first.job;
-    let mut last = step_lent(stepped, slot, allowance - half);
-    last.stores = std::num::wrapping_add_usize(first.stores, last.stores);
-    last
+    let last = step_lent(first.job, slot, allowance - half);
+    let Advanced { stores, done } = last.answer?;
+    Ok(Advanced {
+        stores: stores.wrapping_add(first.answer?.stores),
+        done,
+    })
 }
 
 // So many stores: by one step, or for an odd number of them by two steps of a job that is lent.
-fn stepped(job: Job, slot: &mut [u8], allowance: usize) -> Stepped {
+fn step_by(job: Job, slot: &mut [u8], allowance: usize) -> Result<Advanced, OtherSize> {
     if allowance % 2 == 0 {
-        return job.step(slot, allowance);
+        job.step(slot, allowance).answer
+    } else {
+        step_in_two(job, slot, allowance)
     }
-    step_in_two(job, slot, allowance)
 }
 
 // So many stores, and what the last step tells.
-fn put_step(d: u32, slot: &mut [u8], body: &[u8], allowance: usize) -> u32 {
-    let s = stepped(job_for(slot, body), slot, allowance);
-    let answer = s.answer;
-    put(put(put_size(d, s.stores), bit(s.done)), number(answer))
+fn put_step(d: u32, slot: &mut [u8], job: Job, allowance: usize) -> u32 {
+    let (number, Advanced { stores, done }) = step_told(step_by(job, slot, allowance));
+    put(put(put_size(d, stores), u32::from(done)), number)
 }
 
 // Stops a job after a number of stores, and puts what is then in the slot.
-pub(crate) fn put_stop(d: u32, start: &[u8], slot: &mut [u8], body: &[u8], made: usize) -> u32 {
-    copy(slot, 0, start);
-    let after = put_step(d, slot, body, made);
+pub(crate) fn put_stop(d: u32, start: &[u8], slot: &mut [u8], job: Job, made: usize) -> u32
+    requires { length slot.old ≡ length start.now }
+{
+    slot.copy_from_slice(start);
+    let after = put_step(d, slot, job, made);
     put_bytes(put_reading(after, slot), slot)
 }
 

@@ -7,7 +7,6 @@ use Prim.Native.Nat.{ℕ, ◌+◌, ◌≤◌, ◌<◌}
 use native.Mathlib.Nat.{add-zero}
 use native.Mathlib.Omega.{arith}
 use lib.ListN.{length, get_or, drop}
-use Rattle.answers.proofs.Options.{is-selected}
 use Rattle.wire.specs.Flags.{when, bit, is_one, only}
 use Rattle.wire.specs.Widths.{cut, pack, Bytes}
 use Rattle.wire.specs.Parts.{Part, ◌⦂◌, bytes_of}
@@ -16,20 +15,21 @@ use Rattle.wire.proofs.Parts.{bytes_of-append, found}
 use Rattle.wire.proofs.Flags.{bit_is}
 use Rattle.s2xv2.specs.Table144b as T
 use Rattle.s2xv2.specs.Table144c.{mode_of, has_selector}
-use Rattle.answers.specs.Options.{selected, some_bool_if, some8_if}
-use Rattle.s2xv2.specs.OptionSuperframe.{some_superframe_if}
 use Rattle.s2xv2.specs.Read.{Present, present_in, stream_end, scrambling_end, timeslice_end, has_second, bond_size, bond_end, has_plan, superframe_size, superframe_end, body_size, plan_at, superframe_at, stream_id_at, reserved6_at, index_at, reserved7_at, count_if, first_id_at, second_id_at, record_at, record_in}
 use Rattle.s2xv2.specs.Encode.{top_bit, core_values, byte_parts, scrambling_parts, bond_parts, nibble_of, superframe_values, plan_parts, superframe_parts, parts_of, encode}
-use Rattle.s2xv2.specs.declared.superframe.OptionSuperframe.TheVariants as OS
 use Rattle.s2xv2.proofs.Modes.{code-mode}
+use Rattle.std.specs.Prelude.{Some}
+use Rattle.std.specs.Option.{unwrap_or}
+use Rattle.std.specs.Bool.{then_some}
+use Rattle.answers.proofs.Options.{is-selected}
 
 -- ---- what is made of a field gives the field back
 
-top_back : (has : Bool) (x : ℕ) → x < 2 → top_bit (some_bool_if has (is_one x)) (when has 0 x) ≡ x
+top_back : (has : Bool) (x : ℕ) → x < 2 → top_bit (then_some has (is_one x)) (when has 0 x) ≡ x
 top_back true x h = bit_is x h
 top_back false x h = refl
 
-pub nibble-back : (t : Bool) (x : ℕ) → nibble_of t (some8_if t x) (when t 0 x) ≡ x
+pub nibble-back : (t : Bool) (x : ℕ) → nibble_of t (then_some t x) (when t 0 x) ≡ x
 nibble-back true x = refl
 nibble-back false x = refl
 
@@ -100,7 +100,7 @@ module _ (s : List ℕ) (y : Bytes s) where
 
   -- the block's parts, from its fields
   block-parts : (p : ℕ) (d : Bool) (l : List ℕ) → has_plan s p ≡ d
-      → bytes_of (superframe_parts (OS.Some (superframe_at s p d))) l
+      → bytes_of (superframe_parts (Some (superframe_at s p d))) l
       ≡ pack T.superframe (cut s p T.superframe) ++ bytes_of (plan_parts d (plan_at s p d) ++ (T.last_byte ⦂ cut s (p + when d 11 7) T.last_byte ∷ [])) l
   unfolding superframe_parts superframe_at
   block-parts p d l e =
@@ -111,7 +111,7 @@ module _ (s : List ℕ) (y : Bytes s) where
   last-encodes p q h e = rw (← e) (found s p T.last_byte refl y h)
 
   block-encodes : (p : ℕ) (d : Bool) → has_plan s p ≡ d → p + superframe_size d ≤ length s
-      → drop p s ≡ bytes_of (superframe_parts (OS.Some (superframe_at s p d))) (drop (p + superframe_size d) s)
+      → drop p s ≡ bytes_of (superframe_parts (Some (superframe_at s p d))) (drop (p + superframe_size d) s)
   block-encodes p true e h =
       found s p T.superframe refl y (omega arith)
       ∙ ap (λ (l : List ℕ). pack T.superframe (cut s p T.superframe) ++ l)
@@ -124,7 +124,7 @@ module _ (s : List ℕ) (y : Bytes s) where
       ∙ sym (block-parts p false (drop (p + 8) s) e)
 
   superframe-encodes : (p : ℕ) (t : Bool) → p + only t (superframe_size (has_plan s p)) ≤ length s
-      → drop p s ≡ bytes_of (superframe_parts (some_superframe_if t (superframe_at s p (has_plan s p)))) (drop (p + only t (superframe_size (has_plan s p))) s)
+      → drop p s ≡ bytes_of (superframe_parts (then_some t (superframe_at s p (has_plan s p)))) (drop (p + only t (superframe_size (has_plan s p))) s)
   unfolding superframe_parts
   superframe-encodes p true h = block-encodes p (has_plan s p) refl h
   superframe-encodes p false h = rw (add-zero p)
@@ -150,7 +150,7 @@ module _ (s : List ℕ) (y : Bytes s) where
       (first_id_at s (timeslice_end k) k.bond ∷ second_id_at s (timeslice_end k) k.bond (has_second s (timeslice_end k)) ∷ [])
 
   abbrev superframe_read : Present → List Part
-  superframe_read k = superframe_parts (some_superframe_if k.superframe (superframe_at s (bond_end s k) (has_plan s (bond_end s k))))
+  superframe_read k = superframe_parts (then_some k.superframe (superframe_at s (bond_end s k) (has_plan s (bond_end s k))))
 
   -- the parts after the core, as they were read; t says whether the scrambling index is there
   abbrev rest₂ : Present → List Part
@@ -173,7 +173,7 @@ module _ (s : List ℕ) (y : Bytes s) where
   parts-back : parts_of (record_in s) ≡ T.core ⦂ cut s 0 T.core ∷ rest₀ (present_in s).scrambling (present_in s)
   unfolding parts_of record_at present_in
   parts-back =
-      ap (λ (vs : List ℕ). T.core ⦂ vs ∷ rest₀ (selected (some_bool_if (has_selector (mode_of mode)) (is_one top))) (present_in s)) core-back
+      ap (λ (vs : List ℕ). T.core ⦂ vs ∷ rest₀ (unwrap_or (then_some (has_selector (mode_of mode)) (is_one top)) false) (present_in s)) core-back
       ∙ ap (λ (t : Bool). T.core ⦂ cut s 0 T.core ∷ rest₀ t (present_in s)) (is-selected (has_selector (mode_of mode)) (is_one top))
 
   -- Writing what was read, with its tail, gives the bytes.

@@ -15,9 +15,7 @@ use Rattle.s2xv2.specs.ListA.{inconsistency}
 use Rattle.s2xv2.specs.ListB.{unwritable}
 use Rattle.s2xv2.specs.Write.{write_told}
 use Rattle.s2xv2.specs.declared.record.S2Xv2SatelliteDeliverySystem.{S2Xv2SatelliteDeliverySystem}
-use Rattle.s2xv2.specs.declared.superframe.OptionSuperframe.TheVariants as OS
-use Rattle.answers.specs.declared.option.OptionU8.TheVariants as O8
-use Rattle.answers.specs.declared.option.OptionU32.TheVariants as O32
+use Rattle.std.specs.Prelude.{None}
 
 -- what is given and what is due, in numbers
 pub record Row : Type 0 where
@@ -66,7 +64,7 @@ read_bonds n bs = read_told (body n bs) ++ ((read_of (body n bs)).body.num_chann
 -- a record of zeros but for its satellite_id, and what its writing is answered, with room for all that a body may have
 abbrev satellite : ℕ → S2Xv2SatelliteDeliverySystem
 satellite n =
-    record_from (0 ∷ 0 ∷ 0 ∷ 0 ∷ 0 ∷ 0 ∷ 0 ∷ 0 ∷ 0 ∷ 0 ∷ 0 ∷ 0 ∷ n ∷ 0 ∷ 0 ∷ []) O8.None 0 O32.None O8.None 0 0 0 0 OS.None
+    record_from (0 ∷ 0 ∷ 0 ∷ 0 ∷ 0 ∷ 0 ∷ 0 ∷ 0 ∷ 0 ∷ 0 ∷ 0 ∷ 0 ∷ n ∷ 0 ∷ 0 ∷ []) None 0 None None 0 0 0 0 None
 
 abbrev write : ℕ → List ℕ
 write n = write_told (satellite n) [] 4096

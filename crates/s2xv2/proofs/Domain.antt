@@ -14,8 +14,6 @@ use Rattle.wire.specs.Widths.{Bytes, wide}
 use Rattle.wire.proofs.Cut.{fit_cut}
 use Rattle.s2xv2.specs.Table144b as T
 use Rattle.s2xv2.specs.Table144c.{mode_of, has_selector}
-use Rattle.answers.specs.Options.{is_some_bool, is_some8, is_some32, selected, or_zero8, or_zero32, some_bool_if, some8_if, some32_if}
-use Rattle.s2xv2.specs.OptionSuperframe.{is_some_superframe, some_superframe_if}
 use Rattle.s2xv2.specs.Read.{Present, present_in, stream_end, scrambling_end, timeslice_end, has_second, bond_end, has_plan, superframe_at, count_if, record_at, record_in}
 use Rattle.wire.specs.Count.{less_one}
 use Rattle.s2xv2.specs.ListA.{in_superframe, list_a, inconsistency}
@@ -26,6 +24,9 @@ use Rattle.s2xv2.specs.declared.superframe.S2Xv2Superframe.{S2Xv2Superframe}
 use Rattle.s2xv2.proofs.Modes.{code-mode, mode-named}
 use Rattle.answers.proofs.Tests.{Clear, clear_first}
 use Rattle.s2xv2.proofs.Back.{nibble-back}
+use Rattle.std.specs.Prelude.{is_some}
+use Rattle.std.specs.Option.{unwrap_or}
+use Rattle.std.specs.Bool.{then_some}
 
 -- ---- tests that fail
 
@@ -33,28 +34,28 @@ not_wide : (w v : ℕ) → v < 2 ^ w → wide w v ≡ false
 not_wide w v h = lt-leb _ _ h
 
 -- what a flag says is there, is there as the flag says
-said8 : (t : Bool) (v : ℕ) → differ (is_some8 (some8_if t v)) t ≡ false
+said8 : (t : Bool) (v : ℕ) → differ (is_some (then_some t v)) t ≡ false
 said8 true v = refl
 said8 false v = refl
 
-said_bool : (t b : Bool) → differ (is_some_bool (some_bool_if t b)) t ≡ false
+said_bool : (t b : Bool) → differ (is_some (then_some t b)) t ≡ false
 said_bool true b = refl
 said_bool false b = refl
 
-said_superframe : (t : Bool) (f : S2Xv2Superframe) → differ (is_some_superframe (some_superframe_if t f)) t ≡ false
+said_superframe : (t : Bool) (f : S2Xv2Superframe) → differ (is_some (then_some t f)) t ≡ false
 said_superframe true f = refl
 said_superframe false f = refl
 
-index-said : (has b : Bool) (v : ℕ) → and (is_some32 (some32_if (and has b) v)) (not (selected (some_bool_if has b))) ≡ false
+index-said : (has b : Bool) (v : ℕ) → and (is_some (then_some (and has b) v)) (not (unwrap_or (then_some has b) false)) ≡ false
 index-said true true v = refl
 index-said true false v = refl
 index-said false b v = refl
 
-sffi-said : (t : Bool) (v : ℕ) → and (is_some8 (some8_if t v)) (not t) ≡ false
+sffi-said : (t : Bool) (v : ℕ) → and (is_some (then_some t v)) (not t) ≡ false
 sffi-said true v = refl
 sffi-said false v = refl
 
-plan-said : (t : Bool) (v : ℕ) → and (is_some32 (some32_if t v)) (not t) ≡ false
+plan-said : (t : Bool) (v : ℕ) → and (is_some (then_some t v)) (not t) ≡ false
 plan-said true v = refl
 plan-said false v = refl
 
@@ -85,13 +86,13 @@ module _ (s : List ℕ) where
   abbrev block : ℕ
   block = bond_end s k
 
-  read-a8 : (t : Bool) (p : ℕ) (d : Bool) → in_superframe (λ f. and (is_some8 f.sffi) (not f.sffi_selector)) (some_superframe_if t (superframe_at s p d)) ≡ false
+  read-a8 : (t : Bool) (p : ℕ) (d : Bool) → in_superframe (λ f. and (is_some f.sffi) (not f.sffi_selector)) (then_some t (superframe_at s p d)) ≡ false
   unfolding superframe_at
   read-a8 true p d = sffi-said (is_one (bits s (p + 1) 0 1)) (bits s (p + 4) 0 4)
   read-a8 false p d = refl
 
   read-a9 : (t : Bool) (p : ℕ)
-      → in_superframe (λ f. and (is_some32 f.beamhopping_time_plan_id) (not f.beam_hopping_time_plan_selector)) (some_superframe_if t (superframe_at s p (has_plan s p))) ≡ false
+      → in_superframe (λ f. and (is_some f.beamhopping_time_plan_id) (not f.beam_hopping_time_plan_selector)) (then_some t (superframe_at s p (has_plan s p))) ≡ false
   unfolding superframe_at
   read-a9 true p = plan-said (has_plan s p) (bits s (p + 7) 0 32)
   read-a9 false p = refl
@@ -120,16 +121,16 @@ module _ (s : List ℕ) where
 
 -- ---- list B
 
-reserved-said : (t : Bool) (b : Bool) (v : ℕ) → v < 2 → and (not (is_some_bool (some_bool_if t b))) (wide 1 (when t 0 v)) ≡ false
+reserved-said : (t : Bool) (b : Bool) (v : ℕ) → v < 2 → and (not (is_some (then_some t b))) (wide 1 (when t 0 v)) ≡ false
 reserved-said true b v h = refl
 reserved-said false b v h = not_wide 1 v h
 
-index-there : (has b : Bool) (v : ℕ) → and (selected (some_bool_if has b)) (not (is_some32 (some32_if (and has b) v))) ≡ false
+index-there : (has b : Bool) (v : ℕ) → and (unwrap_or (then_some has b) false) (not (is_some (then_some (and has b) v))) ≡ false
 index-there true true v = refl
 index-there true false v = refl
 index-there false b v = refl
 
-index-narrow : (has b : Bool) (v : ℕ) → v < 2 ^ 18 → and (selected (some_bool_if has b)) (wide 18 (or_zero32 (some32_if (and has b) v))) ≡ false
+index-narrow : (has b : Bool) (v : ℕ) → v < 2 ^ 18 → and (unwrap_or (then_some has b) false) (wide 18 (unwrap_or (then_some (and has b) v) 0)) ≡ false
 index-narrow true true v h = not_wide 18 v h
 index-narrow true false v h = refl
 index-narrow false b v h = refl
@@ -139,17 +140,17 @@ only-narrow true true w v h = not_wide w v h
 only-narrow true false w v h = lt-leb _ _ (pow_pos w)
 only-narrow false u w v h = refl
 
-sffi-there : (t : Bool) (v : ℕ) → and t (not (is_some8 (some8_if t v))) ≡ false
+sffi-there : (t : Bool) (v : ℕ) → and t (not (is_some (then_some t v))) ≡ false
 sffi-there true v = refl
 sffi-there false v = refl
 
-plan-there : (t : Bool) (v : ℕ) → and t (not (is_some32 (some32_if t v))) ≡ false
+plan-there : (t : Bool) (v : ℕ) → and t (not (is_some (then_some t v))) ≡ false
 plan-there true v = refl
 plan-there false v = refl
 
 module _ (s : List ℕ) (y : Bytes s) where
   -- the tests of the superframe block
-  block-clear : (t : Bool) (p : ℕ) → Clear (superframe_b (some_superframe_if t (superframe_at s p (has_plan s p))))
+  block-clear : (t : Bool) (p : ℕ) → Clear (superframe_b (then_some t (superframe_at s p (has_plan s p))))
   unfolding superframe_at
   block-clear true p =
       let f = fit_cut s p T.superframe refl y in
@@ -201,7 +202,7 @@ module _ (s : List ℕ) (y : Bytes s) where
                           (
                             index-narrow has (top s) (bits s (stream_end (k s)) 6 18) g.1.0,
                             (
-                              only-narrow (selected (some_bool_if has (top s))) (k s).scrambling 6 (bits s (stream_end (k s)) 0 6) g.0,
+                              only-narrow (unwrap_or (then_some has (top s)) false) (k s).scrambling 6 (bits s (stream_end (k s)) 0 6) g.0,
                               (
                                 count-written (k s).bond (has_second s (timeslice_end (k s))),
                                 (only-narrow (k s).bond (k s).bond 7 (bits s (timeslice_end (k s)) 0 7) h.0, block-clear (k s).superframe (block s)),
@@ -221,11 +222,11 @@ module _ (s : List ℕ) (y : Bytes s) where
 
   -- ---- the types
 
-  held8 : (t : Bool) (v : ℕ) → v < 2 ^ 8 → or_zero8 (some8_if t v) < 2 ^ 8
+  held8 : (t : Bool) (v : ℕ) → v < 2 ^ 8 → unwrap_or (then_some t v) 0 < 2 ^ 8
   held8 true v h = h
   held8 false v h = omega arith
 
-  held32 : (t : Bool) (v : ℕ) → v < 2 ^ 32 → or_zero32 (some32_if t v) < 2 ^ 32
+  held32 : (t : Bool) (v : ℕ) → v < 2 ^ 32 → unwrap_or (then_some t v) 0 < 2 ^ 32
   held32 true v h = h
   held32 false v h = omega arith
 
@@ -236,7 +237,7 @@ module _ (s : List ℕ) (y : Bytes s) where
   word : (p : ℕ) → bits s p 0 32 < 2 ^ 32
   word p = (fit_cut s p T.bond_id refl y).0
 
-  held-block : (t : Bool) (p : ℕ) (d : Bool) → HeldSuperframe (some_superframe_if t (superframe_at s p d))
+  held-block : (t : Bool) (p : ℕ) (d : Bool) → HeldSuperframe (then_some t (superframe_at s p d))
   unfolding superframe_at
   held-block true p d = record { sosf = (fit_cut s p T.superframe refl y).0; plan = held32 d _ (word (p + 7)) }
   held-block false p d = tt
@@ -256,11 +257,11 @@ module _ (s : List ℕ) (y : Bytes s) where
 
 -- ---- the wire carries it
 
-reserved-carried : (t b : Bool) (v : ℕ) → when (is_some_bool (some_bool_if t b)) 0 (when t 0 v) ≡ when t 0 v
+reserved-carried : (t b : Bool) (v : ℕ) → when (is_some (then_some t b)) 0 (when t 0 v) ≡ when t 0 v
 reserved-carried true b v = refl
 reserved-carried false b v = refl
 
-index-carried : (has b : Bool) (v : ℕ) → only (selected (some_bool_if has b)) (only (and has b) v) ≡ only (and has b) v
+index-carried : (has b : Bool) (v : ℕ) → only (unwrap_or (then_some has b) false) (only (and has b) v) ≡ only (and has b) v
 index-carried true true v = refl
 index-carried true false v = refl
 index-carried false b v = refl
@@ -279,7 +280,7 @@ nibble-carried : (t : Bool) (v : ℕ) → when t 0 (when t 0 v) ≡ when t 0 v
 nibble-carried true v = refl
 nibble-carried false v = refl
 
-block-carried : (s : List ℕ) (t : Bool) (p : ℕ) (d : Bool) → carried_superframe (some_superframe_if t (superframe_at s p d)) ≡ some_superframe_if t (superframe_at s p d)
+block-carried : (s : List ℕ) (t : Bool) (p : ℕ) (d : Bool) → carried_superframe (then_some t (superframe_at s p d)) ≡ then_some t (superframe_at s p d)
 unfolding superframe_at
 block-carried s true p d = simp nibble-carried
 block-carried s false p d = refl

@@ -12,10 +12,7 @@ use Rattle.wire.specs.Bits.{bits}
 use Rattle.s2xv2.specs.Table144c.{mode_of, code_of, has_selector, has_timeslice, has_superframe}
 use Rattle.s2xv2.specs.Read.{present_in, stream_end, scrambling_end, timeslice_end, bond_end, body_size, superframe_at, record_at, record_in}
 use Rattle.s2xv2.proofs.Modes.{code-mode}
-use Rattle.s2xv2.specs.declared.superframe.OptionSuperframe.TheVariants as OS
-use Rattle.answers.specs.declared.option.OptionBool.TheVariants as OB
-use Rattle.answers.specs.declared.option.OptionU8.TheVariants as O8
-use Rattle.answers.specs.declared.option.OptionU32.TheVariants as O32
+use Rattle.std.specs.Prelude.{None, Some}
 
 module _ (s : List ℕ) where
   -- The core, bytes 0 to 17.
@@ -38,7 +35,7 @@ module _ (s : List ℕ) where
   core-fields = (refl, code-mode _, refl, refl, refl, refl, refl, refl, refl, refl, refl, refl, refl, refl)
 
   -- The top bit of byte 6: the selector in modes 1 and 2, and reserved_1 in the others.
-  pub selector-bit : has_selector (record_in s).s2xv2_mode ≡ true → (record_in s).scrambling_sequence_selector ≡ OB.Some (is_one (bits s 6 0 1))
+  pub selector-bit : has_selector (record_in s).s2xv2_mode ≡ true → (record_in s).scrambling_sequence_selector ≡ Some (is_one (bits s 6 0 1))
   unfolding record_at
   selector-bit e = simp e
 
@@ -58,19 +55,19 @@ module _ (s : List ℕ) where
   present-bits = refl
 
   -- The stream id, at byte 18.
-  pub stream-byte : (present_in s).stream ≡ true → (record_in s).input_stream_identifier ≡ O8.Some (bits s 18 0 8)
+  pub stream-byte : (present_in s).stream ≡ true → (record_in s).input_stream_identifier ≡ Some (bits s 18 0 8)
   unfolding record_at
   stream-byte e = simp e
 
   -- The scrambling index and reserved_6, behind the stream id.
   pub scrambling-fields : (present_in s).scrambling ≡ true
       → ((record_in s).reserved_zero_future_use_6 ≡ bits s (stream_end (present_in s)) 0 6)
-      × ((record_in s).scrambling_sequence_index ≡ O32.Some (bits s (stream_end (present_in s)) 6 18))
+      × ((record_in s).scrambling_sequence_index ≡ Some (bits s (stream_end (present_in s)) 6 18))
   unfolding record_at
   scrambling-fields e = simp e (refl, refl)
 
   -- The timeslice, behind the scrambling index.
-  pub timeslice-byte : (present_in s).timeslice ≡ true → (record_in s).timeslice_number ≡ O8.Some (bits s (scrambling_end (present_in s)) 0 8)
+  pub timeslice-byte : (present_in s).timeslice ≡ true → (record_in s).timeslice_number ≡ Some (bits s (scrambling_end (present_in s)) 0 8)
   unfolding record_at
   timeslice-byte e = simp e
 
@@ -100,7 +97,7 @@ module _ (s : List ℕ) where
   block-fields p plan = (refl, refl, refl, refl, refl, refl)
 
   -- The nibble of its byte 4: SFFI where its selector is set, and reserved_4 where it is clear.
-  pub sffi-nibble : (p : ℕ) (plan : Bool) → (superframe_at s p plan).sffi_selector ≡ true → (superframe_at s p plan).sffi ≡ O8.Some (bits s (p + 4) 0 4)
+  pub sffi-nibble : (p : ℕ) (plan : Bool) → (superframe_at s p plan).sffi_selector ≡ true → (superframe_at s p plan).sffi ≡ Some (bits s (p + 4) 0 4)
   unfolding superframe_at
   sffi-nibble p plan e = simp e
 
@@ -115,7 +112,7 @@ module _ (s : List ℕ) where
   unfolding superframe_at
   last-fields p plan = (refl, refl)
 
-  pub plan-field : (p : ℕ) → (superframe_at s p true).beamhopping_time_plan_id ≡ O32.Some (bits s (p + 7) 0 32)
+  pub plan-field : (p : ℕ) → (superframe_at s p true).beamhopping_time_plan_id ≡ Some (bits s (p + 7) 0 32)
   unfolding superframe_at
   plan-field p = refl
 
@@ -132,27 +129,27 @@ module _ (s : List ℕ) where
 
   -- The block of the record stands behind the bonds, with a plan id where its hopping selector is set.
   pub block-there : (present_in s).superframe ≡ true
-      → (record_in s).superframe ≡ OS.Some (superframe_at s (bond_end s (present_in s)) (is_one (bits s (bond_end s (present_in s) + 1) 1 1)))
+      → (record_in s).superframe ≡ Some (superframe_at s (bond_end s (present_in s)) (is_one (bits s (bond_end s (present_in s) + 1) 1 1)))
   unfolding record_at
   block-there e = simp e
 
   -- A part that is not there reads as absent, no bonds, and 0 for what is reserved in it and for the ids.
-  pub absent : ((present_in s).stream ≡ false → (record_in s).input_stream_identifier ≡ O8.None)
-      × ((present_in s).scrambling ≡ false → ((record_in s).scrambling_sequence_index ≡ O32.None) × ((record_in s).reserved_zero_future_use_6 ≡ 0))
-      × ((present_in s).timeslice ≡ false → (record_in s).timeslice_number ≡ O8.None)
+  pub absent : ((present_in s).stream ≡ false → (record_in s).input_stream_identifier ≡ None)
+      × ((present_in s).scrambling ≡ false → ((record_in s).scrambling_sequence_index ≡ None) × ((record_in s).reserved_zero_future_use_6 ≡ 0))
+      × ((present_in s).timeslice ≡ false → (record_in s).timeslice_number ≡ None)
       × ((present_in s).bond ≡ false
       → ((record_in s).num_channel_bonds ≡ 0) × ((record_in s).reserved_zero_future_use_7 ≡ 0) × ((record_in s).secondary_delivery_system_ids ≡ 0 ∷ 0 ∷ []))
-      × ((present_in s).superframe ≡ false → (record_in s).superframe ≡ OS.None)
+      × ((present_in s).superframe ≡ false → (record_in s).superframe ≡ None)
   unfolding record_at
   absent = (λ e. simp e, λ e. simp e (refl, refl), λ e. simp e, λ e. simp e (refl, refl, refl), λ e. simp e)
 
   -- A field that shares its place with another reads as absent, or as 0, where the other stands there; so does the second of two ids where there is one.
   pub absent-field : (has_selector (record_in s).s2xv2_mode ≡ true → (record_in s).reserved_zero_future_use_1 ≡ 0)
-      × (has_selector (record_in s).s2xv2_mode ≡ false → (record_in s).scrambling_sequence_selector ≡ OB.None)
+      × (has_selector (record_in s).s2xv2_mode ≡ false → (record_in s).scrambling_sequence_selector ≡ None)
       × (is_one (bits s (timeslice_end (present_in s)) 7 1) ≡ false → get_or (record_in s).secondary_delivery_system_ids 1 0 ≡ 0)
       × ((p : ℕ) (plan : Bool) → (superframe_at s p plan).sffi_selector ≡ true → (superframe_at s p plan).reserved_zero_future_use_4 ≡ 0)
-      × ((p : ℕ) (plan : Bool) → (superframe_at s p plan).sffi_selector ≡ false → (superframe_at s p plan).sffi ≡ O8.None)
-      × ((p : ℕ) → (superframe_at s p false).beamhopping_time_plan_id ≡ O32.None)
+      × ((p : ℕ) (plan : Bool) → (superframe_at s p plan).sffi_selector ≡ false → (superframe_at s p plan).sffi ≡ None)
+      × ((p : ℕ) → (superframe_at s p false).beamhopping_time_plan_id ≡ None)
   unfolding record_at superframe_at
   absent-field = (λ e. simp e, λ e. simp e, λ e. go (present_in s).bond refl e, λ p plan e. simp e, λ p plan e. simp e, λ p. refl)
     where

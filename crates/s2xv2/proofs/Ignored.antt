@@ -12,7 +12,6 @@ use borrow.Author.Tests.{eqb-true}
 use Rattle.wire.specs.Flags.{when, and, not, only}
 use Rattle.wire.specs.Parts.{Part, ◌⦂◌, sizes, bytes_of}
 use Rattle.s2xv2.specs.Table144b as T
-use Rattle.answers.specs.Options.{is_some_bool, selected}
 use Rattle.answers.specs.Answer.{number_of}
 use Rattle.s2xv2.specs.Encode.{top_bit, nibble_of, id_parts, scrambling_parts, bond_parts, superframe_parts, parts_of, encode, encoded_length}
 use Rattle.wire.specs.Count.{less_one}
@@ -28,23 +27,20 @@ use Rattle.wire.proofs.Wide.{narrow}
 use Rattle.s2xv2.proofs.Whole.{parts-size}
 use Rattle.s2xv2.proofs.Written.{accepted-writable}
 use Rattle.s2xv2.specs.declared.record.S2Xv2SatelliteDeliverySystem.{S2Xv2SatelliteDeliverySystem}
-use Rattle.s2xv2.specs.declared.superframe.OptionSuperframe.{OptionSuperframe}
-use Rattle.s2xv2.specs.declared.superframe.OptionSuperframe.TheVariants as OS
-use Rattle.answers.specs.declared.option.OptionBool.{OptionBool}
-use Rattle.answers.specs.declared.option.OptionBool.TheVariants as OB
-use Rattle.answers.specs.declared.option.OptionU8.{OptionU8}
-use Rattle.answers.specs.declared.option.OptionU32.{OptionU32}
+use Rattle.std.specs.Prelude.{None, Option, Some, is_some}
+use Rattle.std.specs.Option.{unwrap_or}
+use Rattle.s2xv2.specs.declared.superframe.S2Xv2Superframe.{S2Xv2Superframe}
 
 -- ---- a value that is not looked at
 
 -- reserved_1 behind a selector, in list B and in byte 6
-top-judged : (o : OptionBool) (v : ℕ) → and (not (is_some_bool o)) (wide 1 (when (is_some_bool o) 0 v)) ≡ and (not (is_some_bool o)) (wide 1 v)
-top-judged (OB.Some b) v = refl
-top-judged OB.None v = refl
+top-judged : (o : Option Bool) (v : ℕ) → and (not (is_some o)) (wide 1 (when (is_some o) 0 v)) ≡ and (not (is_some o)) (wide 1 v)
+top-judged (Some b) v = refl
+top-judged None v = refl
 
-top-written : (o : OptionBool) (v : ℕ) → top_bit o (when (is_some_bool o) 0 v) ≡ top_bit o v
-top-written (OB.Some b) v = refl
-top-written OB.None v = refl
+top-written : (o : Option Bool) (v : ℕ) → top_bit o (when (is_some o) 0 v) ≡ top_bit o v
+top-written (Some b) v = refl
+top-written None v = refl
 
 -- reserved_6 and reserved_7 without the part that they stand in
 behind : (there : Bool) (w v : ℕ) → and there (wide w (only there v)) ≡ and there (wide w v)
@@ -52,28 +48,28 @@ behind true w v = refl
 behind false w v = refl
 
 -- reserved_4 behind SFFI
-nibble : (selector : Bool) (o : OptionU8) (v : ℕ) → nibble_of selector o (when selector 0 v) ≡ nibble_of selector o v
+nibble : (selector : Bool) (o : Option ℕ) (v : ℕ) → nibble_of selector o (when selector 0 v) ≡ nibble_of selector o v
 nibble true o v = refl
 nibble false o v = refl
 
 -- ---- the lists
 
-superframe-a : (o : OptionSuperframe) → superframe_a (carried_superframe o) ≡ superframe_a o
-superframe-a (OS.Some f) = refl
-superframe-a OS.None = refl
+superframe-a : (o : Option S2Xv2Superframe) → superframe_a (carried_superframe o) ≡ superframe_a o
+superframe-a (Some f) = refl
+superframe-a None = refl
 
-superframe-b : (o : OptionSuperframe) → superframe_b (carried_superframe o) ≡ superframe_b o
-superframe-b (OS.Some f) = rw (nibble f.sffi_selector f.sffi f.reserved_zero_future_use_4)
-superframe-b OS.None = refl
+superframe-b : (o : Option S2Xv2Superframe) → superframe_b (carried_superframe o) ≡ superframe_b o
+superframe-b (Some f) = rw (nibble f.sffi_selector f.sffi f.reserved_zero_future_use_4)
+superframe-b None = refl
 
-superframe-parts : (o : OptionSuperframe) → superframe_parts (carried_superframe o) ≡ superframe_parts o
+superframe-parts : (o : Option S2Xv2Superframe) → superframe_parts (carried_superframe o) ≡ superframe_parts o
 unfolding superframe_parts
-superframe-parts (OS.Some f) = rw (nibble f.sffi_selector f.sffi f.reserved_zero_future_use_4)
-superframe-parts OS.None = refl
+superframe-parts (Some f) = rw (nibble f.sffi_selector f.sffi f.reserved_zero_future_use_4)
+superframe-parts None = refl
 
 -- ---- the parts
 
-scrambling-parts : (there : Bool) (v : ℕ) (o : OptionU32) → scrambling_parts there (only there v) o ≡ scrambling_parts there v o
+scrambling-parts : (there : Bool) (v : ℕ) (o : Option ℕ) → scrambling_parts there (only there v) o ≡ scrambling_parts there v o
 unfolding scrambling_parts
 scrambling-parts true v o = refl
 scrambling-parts false v o = refl
@@ -96,9 +92,9 @@ module _ (r : S2Xv2SatelliteDeliverySystem) where
   unfolding carried
   parts-a = go r.superframe refl
     where
-      go : (o : OptionSuperframe) → r.superframe ≡ o → parts_a (carried r) ≡ parts_a r
-      go (OS.Some f) e = simp e
-      go OS.None e = simp e
+      go : (o : Option S2Xv2Superframe) → r.superframe ≡ o → parts_a (carried r) ≡ parts_a r
+      go (Some f) e = simp e
+      go None e = simp e
 
   pub same-inconsistency : inconsistency (carried r) ≡ inconsistency r
   unfolding inconsistency carried
@@ -109,7 +105,7 @@ module _ (r : S2Xv2SatelliteDeliverySystem) where
   same-unwritable =
       rw (
         top-judged r.scrambling_sequence_selector r.reserved_zero_future_use_1,
-        behind (selected r.scrambling_sequence_selector) 6 r.reserved_zero_future_use_6,
+        behind (unwrap_or r.scrambling_sequence_selector false) 6 r.reserved_zero_future_use_6,
         behind (eqb r.channel_bond 1) 7 r.reserved_zero_future_use_7,
       )
       (ap (λ (bs : List Bool). first_from 1 (core_b r ++ (scrambling_b r ++ (bond_b r ++ bs)))) (superframe-b r.superframe))
@@ -137,7 +133,7 @@ module _ (r : S2Xv2SatelliteDeliverySystem) where
       let few = (first-clear 0 (list_b r) b).1.1.1.1.1.1.1.1.1.1.1.1.0 in
       rw (
         top-written r.scrambling_sequence_selector r.reserved_zero_future_use_1,
-        scrambling-parts (selected r.scrambling_sequence_selector) r.reserved_zero_future_use_6 r.scrambling_sequence_index,
+        scrambling-parts (unwrap_or r.scrambling_sequence_selector false) r.reserved_zero_future_use_6 r.scrambling_sequence_index,
         bond-parts (eqb r.channel_bond 1) r.reserved_zero_future_use_7 r.num_channel_bonds r.secondary_delivery_system_ids few,
         superframe-parts r.superframe,
       )

@@ -17,8 +17,6 @@ use Rattle.wire.proofs.Parts.{fit_append}
 use Rattle.wire.proofs.Flags.{bit-small}
 use Rattle.s2xv2.specs.Table144b as T
 use Rattle.s2xv2.specs.Table144c.{mode_of, code_of, has_selector, has_timeslice, has_superframe}
-use Rattle.answers.specs.Options.{is_some_bool, is_some8, is_some32, selected, or_zero8, or_zero32}
-use Rattle.s2xv2.specs.OptionSuperframe.{is_some_superframe}
 use Rattle.s2xv2.specs.Encode.{top_bit, core_values, byte_parts, scrambling_parts, bond_parts, superframe_end_values, plan_parts, superframe_parts, stream_of, scrambling_of, timeslice_of, bond_of, superframe_of, parts_of}
 use Rattle.wire.specs.Count.{less_one}
 use Rattle.s2xv2.specs.ListA.{misnamed, in_superframe, list_a}
@@ -27,15 +25,10 @@ use Rattle.s2xv2.proofs.Modes.{unnamed}
 use Rattle.s2xv2.specs.Held.{HeldSuperframe, Held}
 use Rattle.s2xv2.specs.declared.record.S2Xv2SatelliteDeliverySystem.{S2Xv2SatelliteDeliverySystem}
 use Rattle.s2xv2.specs.declared.superframe.S2Xv2Superframe.{S2Xv2Superframe}
-use Rattle.s2xv2.specs.declared.superframe.OptionSuperframe.{OptionSuperframe}
-use Rattle.s2xv2.specs.declared.superframe.OptionSuperframe.TheVariants as OS
 use Rattle.s2xv2.specs.declared.mode.S2Xv2Mode.{S2Xv2Mode}
 use Rattle.s2xv2.specs.declared.mode.S2Xv2Mode.TheVariants as M
-use Rattle.answers.specs.declared.option.OptionBool.{OptionBool}
-use Rattle.answers.specs.declared.option.OptionBool.TheVariants as OB
-use Rattle.answers.specs.declared.option.OptionU8.{OptionU8}
-use Rattle.answers.specs.declared.option.OptionU8.TheVariants as O8
-use Rattle.answers.specs.declared.option.OptionU32.{OptionU32}
+use Rattle.std.specs.Prelude.{None, Option, Some, is_some}
+use Rattle.std.specs.Option.{unwrap_or}
 
 -- ---- tests that fail
 
@@ -72,22 +65,22 @@ bonded n c e h = go (ltb 0 n) refl (rw h at e)
 -- ---- what a record is that both lists pass
 
 pub record AgreesBlock (f : S2Xv2Superframe) : Type 0 where
-  pub sffi : is_some8 f.sffi ≡ f.sffi_selector
-  pub plan : is_some32 f.beamhopping_time_plan_id ≡ f.beam_hopping_time_plan_selector
+  pub sffi : is_some f.sffi ≡ f.sffi_selector
+  pub plan : is_some f.beamhopping_time_plan_id ≡ f.beam_hopping_time_plan_selector
 
-abbrev pub AgreesSuperframe : OptionSuperframe → Type 0
-AgreesSuperframe (OS.Some f) = AgreesBlock f
-AgreesSuperframe OS.None = Unit
+abbrev pub AgreesSuperframe : Option S2Xv2Superframe → Type 0
+AgreesSuperframe (Some f) = AgreesBlock f
+AgreesSuperframe None = Unit
 
 -- the mode has its own name, and what is present is what mode and flags ask for
 pub record Agrees (r : S2Xv2SatelliteDeliverySystem) : Type 0 where
   pub mode : mode_of (code_of r.s2xv2_mode) ≡ r.s2xv2_mode
-  pub stream : is_some8 r.input_stream_identifier ≡ r.multiple_input_stream_flag
-  pub selector : is_some_bool r.scrambling_sequence_selector ≡ has_selector r.s2xv2_mode
-  pub index : is_some32 r.scrambling_sequence_index ≡ selected r.scrambling_sequence_selector
-  pub timeslice : is_some8 r.timeslice_number ≡ has_timeslice r.s2xv2_mode
+  pub stream : is_some r.input_stream_identifier ≡ r.multiple_input_stream_flag
+  pub selector : is_some r.scrambling_sequence_selector ≡ has_selector r.s2xv2_mode
+  pub index : is_some r.scrambling_sequence_index ≡ unwrap_or r.scrambling_sequence_selector false
+  pub timeslice : is_some r.timeslice_number ≡ has_timeslice r.s2xv2_mode
   pub bond : eqb r.channel_bond 1 ≡ false → r.num_channel_bonds ≡ 0
-  pub superframe : is_some_superframe r.superframe ≡ has_superframe r.s2xv2_mode
+  pub superframe : is_some r.superframe ≡ has_superframe r.s2xv2_mode
   pub block : AgreesSuperframe r.superframe
 
 module _ (r : S2Xv2SatelliteDeliverySystem) (a : Clear (list_a r)) (b : Clear (list_b r)) where
@@ -104,27 +97,27 @@ module _ (r : S2Xv2SatelliteDeliverySystem) (a : Clear (list_a r)) (b : Clear (l
         b.1.1.1.1.1.1.1.1.1.1.1.1.1.1.1.1.1.0 b.1.1.1.1.1.1.1.1.1.1.1.1.1.1.1.1.1.1.1.0;
   }
     where
-      go : (f : OptionSuperframe)
-          → in_superframe (λ f. and (is_some8 f.sffi) (not f.sffi_selector)) f ≡ false
-          → in_superframe (λ f. and (is_some32 f.beamhopping_time_plan_id) (not f.beam_hopping_time_plan_selector)) f ≡ false
-          → in_superframe (λ f. and f.sffi_selector (not (is_some8 f.sffi))) f ≡ false
-          → in_superframe (λ f. and f.beam_hopping_time_plan_selector (not (is_some32 f.beamhopping_time_plan_id))) f ≡ false
+      go : (f : Option S2Xv2Superframe)
+          → in_superframe (λ f. and (is_some f.sffi) (not f.sffi_selector)) f ≡ false
+          → in_superframe (λ f. and (is_some f.beamhopping_time_plan_id) (not f.beam_hopping_time_plan_selector)) f ≡ false
+          → in_superframe (λ f. and f.sffi_selector (not (is_some f.sffi))) f ≡ false
+          → in_superframe (λ f. and f.beam_hopping_time_plan_selector (not (is_some f.beamhopping_time_plan_id))) f ≡ false
           → AgreesSuperframe f
-      go (OS.Some f) e₁ e₂ e₃ e₄ = record { sffi = both_ways _ _ e₁ e₃; plan = both_ways _ _ e₂ e₄ }
-      go OS.None e₁ e₂ e₃ e₄ = tt
+      go (Some f) e₁ e₂ e₃ e₄ = record { sffi = both_ways _ _ e₁ e₃; plan = both_ways _ _ e₂ e₄ }
+      go None e₁ e₂ e₃ e₄ = tt
 
 -- ---- each part fits
 
-pub top-fits : (c : OptionBool) (v : ℕ) → and (not (is_some_bool c)) (wide 1 v) ≡ false → top_bit c v < 2 ^ 1
-top-fits (OB.Some b) v e = bit-small b
-top-fits OB.None v e = narrow 1 v e
+pub top-fits : (c : Option Bool) (v : ℕ) → and (not (is_some c)) (wide 1 v) ≡ false → top_bit c v < 2 ^ 1
+top-fits (Some b) v e = bit-small b
+top-fits None v e = narrow 1 v e
 
-byte_fits : (v : OptionU8) → or_zero8 v < 2 ^ 8 → AllFit (byte_parts (8 ∷ []) v)
+byte_fits : (v : Option ℕ) → unwrap_or v 0 < 2 ^ 8 → AllFit (byte_parts (8 ∷ []) v)
 unfolding byte_parts
-byte_fits (O8.Some v) h = ((h, tt), tt)
-byte_fits O8.None h = tt
+byte_fits (Some v) h = ((h, tt), tt)
+byte_fits None h = tt
 
-scrambling-fits : (t : Bool) (r : ℕ) (i : OptionU32) → and t (wide 18 (or_zero32 i)) ≡ false → and t (wide 6 r) ≡ false → AllFit (scrambling_parts t r i)
+scrambling-fits : (t : Bool) (r : ℕ) (i : Option ℕ) → and t (wide 18 (unwrap_or i 0)) ≡ false → and t (wide 6 r) ≡ false → AllFit (scrambling_parts t r i)
 unfolding scrambling_parts
 scrambling-fits true r i e f = ((narrow 6 r f, (narrow 18 _ e, tt)), tt)
 scrambling-fits false r i e f = tt
@@ -138,19 +131,19 @@ bond-fits true r (suc (suc zero)) ids e f h k = ((narrow 7 r f, (omega arith, tt
 bond-fits true r (suc (suc (suc n))) ids e f h k = absurd (omega (arith, narrow 1 (suc (suc n)) e))
 bond-fits false r n ids e f h k = tt
 
-plan-fits : (t : Bool) (v : OptionU32) (f : S2Xv2Superframe) → or_zero32 v < 2 ^ 32 → Fit T.last_byte (superframe_end_values f)
+plan-fits : (t : Bool) (v : Option ℕ) (f : S2Xv2Superframe) → unwrap_or v 0 < 2 ^ 32 → Fit T.last_byte (superframe_end_values f)
     → AllFit (plan_parts t v ++ (T.last_byte ⦂ superframe_end_values f ∷ []))
 plan-fits true v f h k = ((h, tt), (k, tt))
 plan-fits false v f h k = (k, tt)
 
-superframe-fits : (o : OptionSuperframe) → Clear (superframe_b o) → HeldSuperframe o → AllFit (superframe_parts o)
+superframe-fits : (o : Option S2Xv2Superframe) → Clear (superframe_b o) → HeldSuperframe o → AllFit (superframe_parts o)
 unfolding superframe_parts
-superframe-fits (OS.Some f) b h = (
+superframe-fits (Some f) b h = (
   (h.sosf, (bit-small f.sffi_selector, (bit-small f.beam_hopping_time_plan_selector, (narrow 2 _ b.1.1.0, (narrow 20 _ b.0, (narrow 4 _ b.1.1.1.1.0, (narrow 20 _ b.1.0, tt))))))),
   plan-fits f.beam_hopping_time_plan_selector f.beamhopping_time_plan_id f h.plan
       (narrow 5 _ b.1.1.1.1.1.1.0, (narrow 3 _ b.1.1.1.1.1.1.1.0, tt)),
 )
-superframe-fits OS.None b h = tt
+superframe-fits None b h = tt
 
 -- ---- all parts fit
 
@@ -194,7 +187,7 @@ module _ (r : S2Xv2SatelliteDeliverySystem) (b : Clear (list_b r)) (h : Held r) 
       let b₁₀ = b.1.1.1.1.1.1.1.1.1 in (
         core-fits,
         fit_append (stream_of r) _ (byte_fits _ h.stream)
-            (fit_append (scrambling_of r) _ (scrambling-fits (selected r.scrambling_sequence_selector) _ _ b₁₀.1.0 b₁₀.1.1.0)
+            (fit_append (scrambling_of r) _ (scrambling-fits (unwrap_or r.scrambling_sequence_selector false) _ _ b₁₀.1.0 b₁₀.1.1.0)
             (fit_append (timeslice_of r) _ (byte_fits _ h.timeslice)
             (fit_append (bond_of r) (superframe_of r) (bond-fits (eqb r.channel_bond 1) _ _ _ b₁₀.1.1.1.0 b₁₀.1.1.1.1.0 h.first h.second)
             (superframe-fits r.superframe b₁₀.1.1.1.1.1 h.block)))),

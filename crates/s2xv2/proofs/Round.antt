@@ -15,21 +15,11 @@ use Rattle.wire.specs.Parts.{Part, ◌⦂◌, bytes_of, sizes, AllFit}
 use Rattle.wire.proofs.Parts.{bytes_of-append, sizes-append, fit-left, fit-right, bytes-bytes_of, Stands, Found, find, after}
 use Rattle.wire.proofs.Flags.{never, is-bit}
 use Rattle.s2xv2.specs.Table144b as T
-use Rattle.answers.specs.Options.{is_some_bool, is_some8, is_some32, selected, some_bool_if, some8_if}
-use Rattle.s2xv2.specs.OptionSuperframe.{is_some_superframe, some_superframe_if}
 use Rattle.s2xv2.specs.Read.{Present, present_from, present_in, stream_end, scrambling_end, timeslice_end, has_second, bond_size, bond_end, has_plan, superframe_size, superframe_end, body_size, superframe_from, superframe_at, stream_id_at, reserved6_at, index_at, reserved7_at, count_if, first_id_at, second_id_at, record_from, record_at, record_in, read_told, Reading, read_of, tail_of}
 use Rattle.s2xv2.specs.Encode.{top_bit, core_values, byte_parts, scrambling_parts, bond_parts, nibble_of, superframe_values, plan_parts, superframe_end_values, superframe_parts, stream_of, scrambling_of, timeslice_of, bond_of, superframe_of, parts_of, encode, encoded_length}
 use Rattle.s2xv2.specs.Carried.{carried_block, carried_superframe, carried_id, carried}
 use Rattle.s2xv2.specs.declared.record.S2Xv2SatelliteDeliverySystem.{S2Xv2SatelliteDeliverySystem}
 use Rattle.s2xv2.specs.declared.superframe.S2Xv2Superframe.{S2Xv2Superframe}
-use Rattle.s2xv2.specs.declared.superframe.OptionSuperframe.{OptionSuperframe}
-use Rattle.s2xv2.specs.declared.superframe.OptionSuperframe.TheVariants as OS
-use Rattle.answers.specs.declared.option.OptionBool.{OptionBool}
-use Rattle.answers.specs.declared.option.OptionBool.TheVariants as OB
-use Rattle.answers.specs.declared.option.OptionU8.{OptionU8}
-use Rattle.answers.specs.declared.option.OptionU8.TheVariants as O8
-use Rattle.answers.specs.declared.option.OptionU32.{OptionU32}
-use Rattle.answers.specs.declared.option.OptionU32.TheVariants as O32
 use Rattle.s2xv2.specs.ListA.{list_a, inconsistency}
 use Rattle.s2xv2.specs.ListB.{list_b, unwritable}
 use Rattle.s2xv2.specs.Held.{Held}
@@ -37,38 +27,41 @@ use Rattle.answers.proofs.Tests.{first-clear}
 use Rattle.s2xv2.proofs.Lists.{AgreesBlock, AgreesSuperframe, Agrees, agrees, fits}
 use Rattle.s2xv2.proofs.Whole.{byte-size, scrambling-size, whole-byte, whole-scrambling, whole-bond, whole_parts, encode-length}
 use Rattle.s2xv2.proofs.Reach.{reads-accepted}
+use Rattle.std.specs.Prelude.{None, Option, Some, is_some}
+use Rattle.std.specs.Option.{unwrap_or}
+use Rattle.std.specs.Bool.{then_some}
 
 nth : {vs ws : List ℕ} (i : ℕ) → vs ≡ ws → get_or vs i 0 ≡ get_or ws i 0
 nth i e = ap (λ (l : List ℕ). get_or l i 0) e
 
 -- ---- two values that share a field: the selector and what is reserved in its place, SFFI and what is reserved in its place
 
-shared-selector : (c : OptionBool) (v : ℕ) → some_bool_if (is_some_bool c) (is_one (top_bit c v)) ≡ c
-shared-selector (OB.Some b) v = ap OB.Some (is-bit b)
-shared-selector OB.None v = refl
+shared-selector : (c : Option Bool) (v : ℕ) → then_some (is_some c) (is_one (top_bit c v)) ≡ c
+shared-selector (Some b) v = ap Some (is-bit b)
+shared-selector None v = refl
 
-shared-reserved : (c : OptionBool) (v : ℕ) → when (is_some_bool c) 0 (top_bit c v) ≡ when (is_some_bool c) 0 v
-shared-reserved (OB.Some b) v = refl
-shared-reserved OB.None v = refl
+shared-reserved : (c : Option Bool) (v : ℕ) → when (is_some c) 0 (top_bit c v) ≡ when (is_some c) 0 v
+shared-reserved (Some b) v = refl
+shared-reserved None v = refl
 
-selected-set : (c : OptionBool) (v : ℕ) → and (is_some_bool c) (is_one (top_bit c v)) ≡ selected c
-selected-set (OB.Some b) v = is-bit b
-selected-set OB.None v = refl
+selected-set : (c : Option Bool) (v : ℕ) → and (is_some c) (is_one (top_bit c v)) ≡ unwrap_or c false
+selected-set (Some b) v = is-bit b
+selected-set None v = refl
 
-shared-sffi : (t : Bool) (v : OptionU8) (r : ℕ) → is_some8 v ≡ t → some8_if t (nibble_of t v r) ≡ v
-shared-sffi true (O8.Some v) r e = refl
-shared-sffi true O8.None r e = never e
-shared-sffi false (O8.Some v) r e = never (sym e)
-shared-sffi false O8.None r e = refl
+shared-sffi : (t : Bool) (v : Option ℕ) (r : ℕ) → is_some v ≡ t → then_some t (nibble_of t v r) ≡ v
+shared-sffi true (Some v) r e = refl
+shared-sffi true None r e = never e
+shared-sffi false (Some v) r e = never (sym e)
+shared-sffi false None r e = refl
 
-shared-nibble : (t : Bool) (v : OptionU8) (r : ℕ) → when t 0 (nibble_of t v r) ≡ when t 0 r
+shared-nibble : (t : Bool) (v : Option ℕ) (r : ℕ) → when t 0 (nibble_of t v r) ≡ when t 0 r
 shared-nibble true v r = refl
 shared-nibble false v r = refl
 
 -- ---- a part that stands at p is read as it was
 
 -- what the parts of several fields read as
-record ScramblingReads (s : List ℕ) (p : ℕ) (t : Bool) (r : ℕ) (i : OptionU32) : Type 0 where
+record ScramblingReads (s : List ℕ) (p : ℕ) (t : Bool) (r : ℕ) (i : Option ℕ) : Type 0 where
   reserved : reserved6_at s p t ≡ only t r
   index : index_at s p t ≡ i
 
@@ -79,37 +72,37 @@ record BondReads (s : List ℕ) (p : ℕ) (t : Bool) (r n : ℕ) (ids : List ℕ
   first : first_id_at s p t ≡ carried_id 0 n ids
   second : second_id_at s p t (has_second s p) ≡ carried_id 1 n ids
 
-record SuperframeReads (s : List ℕ) (p : ℕ) (o : OptionSuperframe) : Type 0 where
-  width : only (is_some_superframe o) (superframe_size (has_plan s p)) ≡ sizes (superframe_parts o)
-  block : some_superframe_if (is_some_superframe o) (superframe_at s p (has_plan s p)) ≡ carried_superframe o
+record SuperframeReads (s : List ℕ) (p : ℕ) (o : Option S2Xv2Superframe) : Type 0 where
+  width : only (is_some o) (superframe_size (has_plan s p)) ≡ sizes (superframe_parts o)
+  block : then_some (is_some o) (superframe_at s p (has_plan s p)) ≡ carried_superframe o
 
 -- the block of the values of f, with f's plan id, is f as the wire carries it
 block-from : (f : S2Xv2Superframe) → AgreesBlock f → superframe_from (superframe_values f) f.beamhopping_time_plan_id (superframe_end_values f) ≡ carried_block f
 block-from f c = simp (is-bit, shared-sffi f.sffi_selector f.sffi f.reserved_zero_future_use_4 c.sffi, shared-nibble)
 
-block_at : (s : List ℕ) (p q : ℕ) (f : S2Xv2Superframe) (v : OptionU32) → AgreesBlock f → cut s p T.superframe ≡ superframe_values f → f.beamhopping_time_plan_id ≡ v
+block_at : (s : List ℕ) (p q : ℕ) (f : S2Xv2Superframe) (v : Option ℕ) → AgreesBlock f → cut s p T.superframe ≡ superframe_values f → f.beamhopping_time_plan_id ≡ v
     → cut s q T.last_byte ≡ superframe_end_values f → superframe_from (cut s p T.superframe) v (cut s q T.last_byte) ≡ carried_block f
 block_at s p q f v c e₁ e₂ e₃ =
     ap (λ (vs : List ℕ). superframe_from vs v (cut s q T.last_byte)) e₁
     ∙ ap (superframe_from (superframe_values f) v) e₃
-    ∙ ap (λ (w : OptionU32). superframe_from (superframe_values f) w (superframe_end_values f)) (sym e₂)
+    ∙ ap (λ (w : Option ℕ). superframe_from (superframe_values f) w (superframe_end_values f)) (sym e₂)
     ∙ block-from f c
 
 module _ (s : List ℕ) (b : Bytes s) where
-  byte_reads : {p : ℕ} (l : List ℕ) (v : OptionU8) → AllFit (byte_parts (8 ∷ []) v) → Stands s p (bytes_of (byte_parts (8 ∷ []) v) l) → stream_id_at s p (is_some8 v) ≡ v
+  byte_reads : {p : ℕ} (l : List ℕ) (v : Option ℕ) → AllFit (byte_parts (8 ∷ []) v) → Stands s p (bytes_of (byte_parts (8 ∷ []) v) l) → stream_id_at s p (is_some v) ≡ v
   unfolding byte_parts
-  byte_reads {p} l (O8.Some v) f h = ap O8.Some (nth 0 (find (8 ∷ []) (v ∷ []) refl f.0 b h).fields)
-  byte_reads {p} l O8.None f h = refl
+  byte_reads {p} l (Some v) f h = ap Some (nth 0 (find (8 ∷ []) (v ∷ []) refl f.0 b h).fields)
+  byte_reads {p} l None f h = refl
 
-  scrambling-reads : {p : ℕ} (l : List ℕ) (t : Bool) (r : ℕ) (i : OptionU32) → is_some32 i ≡ t → AllFit (scrambling_parts t r i)
+  scrambling-reads : {p : ℕ} (l : List ℕ) (t : Bool) (r : ℕ) (i : Option ℕ) → is_some i ≡ t → AllFit (scrambling_parts t r i)
       → Stands s p (bytes_of (scrambling_parts t r i) l) → ScramblingReads s p t r i
   unfolding scrambling_parts
-  scrambling-reads {p} l true r (O32.Some v) e f h =
+  scrambling-reads {p} l true r (Some v) e f h =
       let x = find T.scrambling (r ∷ v ∷ []) refl f.0 b h in
-      record { reserved = nth 0 x.fields; index = ap O32.Some (nth 1 x.fields) }
-  scrambling-reads {p} l true r O32.None e f h = never e
-  scrambling-reads {p} l false r (O32.Some v) e f h = never (sym e)
-  scrambling-reads {p} l false r O32.None e f h = record { reserved = refl; index = refl }
+      record { reserved = nth 0 x.fields; index = ap Some (nth 1 x.fields) }
+  scrambling-reads {p} l true r None e f h = never e
+  scrambling-reads {p} l false r (Some v) e f h = never (sym e)
+  scrambling-reads {p} l false r None e f h = record { reserved = refl; index = refl }
 
   bond-reads : {p : ℕ} (l : List ℕ) (t : Bool) (r n : ℕ) (ids : List ℕ) → (t ≡ false → n ≡ 0) → AllFit (bond_parts t r n ids)
       → Stands s p (bytes_of (bond_parts t r n ids) l) → BondReads s p t r n ids
@@ -130,45 +123,45 @@ module _ (s : List ℕ) (b : Bytes s) where
   bond-reads {p} l false r n ids c f h = rw (c refl) (record { width = refl; reserved = refl; count = refl; first = refl; second = refl })
 
   block_reads : {p : ℕ} (l : List ℕ) (f : S2Xv2Superframe) → AgreesBlock f → (t : Bool) → f.beam_hopping_time_plan_selector ≡ t
-      → (v : OptionU32) → f.beamhopping_time_plan_id ≡ v
+      → (v : Option ℕ) → f.beamhopping_time_plan_id ≡ v
       → Fit T.superframe (superframe_values f) → AllFit (plan_parts t v ++ (T.last_byte ⦂ superframe_end_values f ∷ []))
       → Stands s p (pack T.superframe (superframe_values f) ++ bytes_of (plan_parts t v ++ (T.last_byte ⦂ superframe_end_values f ∷ [])) l)
       → (has_plan s p ≡ t) × (superframe_at s p t ≡ carried_block f)
   unfolding superframe_at
-  block_reads {p} l f c true e (O32.Some v) d g k h =
+  block_reads {p} l f c true e (Some v) d g k h =
       let x = find T.superframe (superframe_values f) refl g b h in
       let y = find T.plan (v ∷ []) refl k.0 b x.rest in
       let z = find T.last_byte (superframe_end_values f) refl k.1.0 b (rw (add_assoc p 7 4) at y.rest) in
-      (ap is_one (nth 2 x.fields) ∙ is-bit _ ∙ e, simp (nth 0 y.fields) (block_at s p (p + 11) f (O32.Some v) c x.fields d z.fields))
-  block_reads {p} l f c true e O32.None d g k h = never (sym (ap is_some32 d) ∙ c.plan ∙ e)
-  block_reads {p} l f c false e (O32.Some v) d g k h = never (sym e ∙ sym c.plan ∙ ap is_some32 d)
-  block_reads {p} l f c false e O32.None d g k h =
+      (ap is_one (nth 2 x.fields) ∙ is-bit _ ∙ e, simp (nth 0 y.fields) (block_at s p (p + 11) f (Some v) c x.fields d z.fields))
+  block_reads {p} l f c true e None d g k h = never (sym (ap is_some d) ∙ c.plan ∙ e)
+  block_reads {p} l f c false e (Some v) d g k h = never (sym e ∙ sym c.plan ∙ ap is_some d)
+  block_reads {p} l f c false e None d g k h =
       let x = find T.superframe (superframe_values f) refl g b h in
       let z = find T.last_byte (superframe_end_values f) refl k.0 b x.rest in
-      (ap is_one (nth 2 x.fields) ∙ is-bit _ ∙ e, block_at s p (p + 7) f O32.None c x.fields d z.fields)
+      (ap is_one (nth 2 x.fields) ∙ is-bit _ ∙ e, block_at s p (p + 7) f None c x.fields d z.fields)
 
-  superframe-reads : {p : ℕ} (l : List ℕ) (o : OptionSuperframe) → AgreesSuperframe o → AllFit (superframe_parts o) → Stands s p (bytes_of (superframe_parts o) l)
+  superframe-reads : {p : ℕ} (l : List ℕ) (o : Option S2Xv2Superframe) → AgreesSuperframe o → AllFit (superframe_parts o) → Stands s p (bytes_of (superframe_parts o) l)
       → SuperframeReads s p o
   unfolding superframe_parts
-  superframe-reads {p} l (OS.Some f) c k h =
+  superframe-reads {p} l (Some f) c k h =
       let x = block_reads l f c f.beam_hopping_time_plan_selector refl f.beamhopping_time_plan_id refl k.0 k.1 h in
       record { width = simp x.0 (go f.beam_hopping_time_plan_selector); block = simp (x.0, x.1) }
     where
       go : (t : Bool) → superframe_size t ≡ 7 + sizes (plan_parts t f.beamhopping_time_plan_id ++ (T.last_byte ⦂ superframe_end_values f ∷ []))
       go true = refl
       go false = refl
-  superframe-reads {p} l OS.None c k h = record { width = refl; block = refl }
+  superframe-reads {p} l None c k h = record { width = refl; block = refl }
 
 -- ---- the record
 
 -- the parts that a record has
 abbrev present_of : S2Xv2SatelliteDeliverySystem → Present
 present_of r = record {
-  stream = is_some8 r.input_stream_identifier;
-  scrambling = selected r.scrambling_sequence_selector;
-  timeslice = is_some8 r.timeslice_number;
+  stream = is_some r.input_stream_identifier;
+  scrambling = unwrap_or r.scrambling_sequence_selector false;
+  timeslice = is_some r.timeslice_number;
   bond = eqb r.channel_bond 1;
-  superframe = is_some_superframe r.superframe;
+  superframe = is_some r.superframe;
 }
 
 present-from : (r : S2Xv2SatelliteDeliverySystem) → Agrees r → present_from (core_values r) ≡ present_of r
@@ -178,7 +171,7 @@ present-from r c = simp (c.mode, is-bit, sym c.stream, sym c.selector, selected-
 abbrev again : S2Xv2SatelliteDeliverySystem → List ℕ → S2Xv2SatelliteDeliverySystem
 again r vs =
     record_from vs r.input_stream_identifier
-    (only (selected r.scrambling_sequence_selector) r.reserved_zero_future_use_6) r.scrambling_sequence_index
+    (only (unwrap_or r.scrambling_sequence_selector false) r.reserved_zero_future_use_6) r.scrambling_sequence_index
     r.timeslice_number
     (only (eqb r.channel_bond 1) r.reserved_zero_future_use_7) r.num_channel_bonds
     (carried_id 0 r.num_channel_bonds r.secondary_delivery_system_ids) (carried_id 1 r.num_channel_bonds r.secondary_delivery_system_ids)
@@ -247,7 +240,7 @@ module _ (s : List ℕ) (r : S2Xv2SatelliteDeliverySystem) (tail : List ℕ) (b 
   unfolding present_in
   present-read = ap present_from core-found.fields ∙ present-from r c
 
-  scrambling-read : ScramblingReads s end₁ (selected r.scrambling_sequence_selector) r.reserved_zero_future_use_6 r.scrambling_sequence_index
+  scrambling-read : ScramblingReads s end₁ (unwrap_or r.scrambling_sequence_selector false) r.reserved_zero_future_use_6 r.scrambling_sequence_index
   scrambling-read = scrambling-reads s b _ _ _ _ c.index (fit-left (scrambling_of r) rest₂ fit₁) st₁
 
   bond-read : BondReads s end₃ (eqb r.channel_bond 1) r.reserved_zero_future_use_7 r.num_channel_bonds r.secondary_delivery_system_ids
@@ -261,7 +254,7 @@ module _ (s : List ℕ) (r : S2Xv2SatelliteDeliverySystem) (tail : List ℕ) (b 
   end₁-is = ap (λ (n : ℕ). 18 + n) (byte-size r.input_stream_identifier)
 
   end₂-is : scrambling_end (present_of r) ≡ end₂
-  end₂-is = ap₂ ◌+◌ end₁-is (scrambling-size (selected r.scrambling_sequence_selector) r.reserved_zero_future_use_6 r.scrambling_sequence_index)
+  end₂-is = ap₂ ◌+◌ end₁-is (scrambling-size (unwrap_or r.scrambling_sequence_selector false) r.reserved_zero_future_use_6 r.scrambling_sequence_index)
 
   end₃-is : timeslice_end (present_of r) ≡ end₃
   end₃-is = ap₂ ◌+◌ end₂-is (byte-size r.timeslice_number)

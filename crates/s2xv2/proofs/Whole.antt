@@ -9,22 +9,19 @@ use lib.ListN.{length}
 use lib.Dec.{eqb}
 use Rattle.wire.specs.Parts.{sizes}
 use Rattle.wire.proofs.Parts.{Whole, whole_append, sizes-append, length-bytes_of}
-use Rattle.answers.specs.Options.{is_some8, selected}
 use Rattle.wire.specs.Flags.{only}
 use Rattle.s2xv2.specs.Encode.{byte_parts, scrambling_parts, id_parts, bond_parts, plan_parts, superframe_parts, stream_of, scrambling_of, timeslice_of, bond_of, superframe_of, parts_of, encode, encoded_length}
 use Rattle.s2xv2.specs.declared.record.S2Xv2SatelliteDeliverySystem.{S2Xv2SatelliteDeliverySystem}
-use Rattle.s2xv2.specs.declared.superframe.OptionSuperframe.{OptionSuperframe}
-use Rattle.s2xv2.specs.declared.superframe.OptionSuperframe.TheVariants as OS
-use Rattle.answers.specs.declared.option.OptionU8.{OptionU8}
-use Rattle.answers.specs.declared.option.OptionU8.TheVariants as O8
-use Rattle.answers.specs.declared.option.OptionU32.{OptionU32}
+use Rattle.std.specs.Prelude.{None, Option, Some, is_some}
+use Rattle.std.specs.Option.{unwrap_or}
+use Rattle.s2xv2.specs.declared.superframe.S2Xv2Superframe.{S2Xv2Superframe}
 
-pub whole-byte : (v : OptionU8) → Whole (byte_parts (8 ∷ []) v)
+pub whole-byte : (v : Option ℕ) → Whole (byte_parts (8 ∷ []) v)
 unfolding Whole byte_parts
-whole-byte (O8.Some v) = (refl, tt)
-whole-byte O8.None = tt
+whole-byte (Some v) = (refl, tt)
+whole-byte None = tt
 
-pub whole-scrambling : (t : Bool) (r : ℕ) (i : OptionU32) → Whole (scrambling_parts t r i)
+pub whole-scrambling : (t : Bool) (r : ℕ) (i : Option ℕ) → Whole (scrambling_parts t r i)
 unfolding Whole scrambling_parts
 whole-scrambling true r i = (refl, tt)
 whole-scrambling false r i = tt
@@ -39,15 +36,15 @@ unfolding Whole bond_parts
 whole-bond true r n ids = (refl, whole-ids 0 n ids)
 whole-bond false r n ids = tt
 
-pub whole-plan : (t : Bool) (v : OptionU32) → Whole (plan_parts t v)
+pub whole-plan : (t : Bool) (v : Option ℕ) → Whole (plan_parts t v)
 unfolding Whole
 whole-plan true v = (refl, tt)
 whole-plan false v = tt
 
-pub whole-superframe : (f : OptionSuperframe) → Whole (superframe_parts f)
+pub whole-superframe : (f : Option S2Xv2Superframe) → Whole (superframe_parts f)
 unfolding Whole superframe_parts
-whole-superframe (OS.Some f) = (refl, whole_append (plan_parts f.beam_hopping_time_plan_selector f.beamhopping_time_plan_id) _ (whole-plan f.beam_hopping_time_plan_selector f.beamhopping_time_plan_id) (refl, tt))
-whole-superframe OS.None = tt
+whole-superframe (Some f) = (refl, whole_append (plan_parts f.beam_hopping_time_plan_selector f.beamhopping_time_plan_id) _ (whole-plan f.beam_hopping_time_plan_selector f.beamhopping_time_plan_id) (refl, tt))
+whole-superframe None = tt
 
 whole-rest : (r : S2Xv2SatelliteDeliverySystem) → Whole (stream_of r ++ (scrambling_of r ++ (timeslice_of r ++ (bond_of r ++ superframe_of r))))
 whole-rest r =
@@ -66,12 +63,12 @@ encode-length r tail = length-bytes_of (parts_of r) tail (whole_parts r)
 
 -- ---- the sizes of the parts
 
-pub byte-size : (v : OptionU8) → only (is_some8 v) 1 ≡ sizes (byte_parts (8 ∷ []) v)
+pub byte-size : (v : Option ℕ) → only (is_some v) 1 ≡ sizes (byte_parts (8 ∷ []) v)
 unfolding byte_parts
-byte-size (O8.Some v) = refl
-byte-size O8.None = refl
+byte-size (Some v) = refl
+byte-size None = refl
 
-pub scrambling-size : (t : Bool) (r : ℕ) (i : OptionU32) → only t 3 ≡ sizes (scrambling_parts t r i)
+pub scrambling-size : (t : Bool) (r : ℕ) (i : Option ℕ) → only t 3 ≡ sizes (scrambling_parts t r i)
 unfolding scrambling_parts
 scrambling-size true r i = refl
 scrambling-size false r i = refl
@@ -101,14 +98,14 @@ parts-split r =
 -- What is counted for each part: one byte for the stream id and the timeslice, 3 for the index, 1 + 4 × count for the bonds.
 pub parts-size : (r : S2Xv2SatelliteDeliverySystem)
     → sizes (parts_of r)
-    ≡ 18 + only (is_some8 r.input_stream_identifier) 1 + only (selected r.scrambling_sequence_selector) 3 + only (is_some8 r.timeslice_number) 1
+    ≡ 18 + only (is_some r.input_stream_identifier) 1 + only (unwrap_or r.scrambling_sequence_selector false) 3 + only (is_some r.timeslice_number) 1
     + only (eqb r.channel_bond 1) (1 + 4 * r.num_channel_bonds) + sizes (superframe_of r)
 parts-size r =
     omega (
       arith,
       parts-split r,
       byte-size r.input_stream_identifier,
-      scrambling-size (selected r.scrambling_sequence_selector) r.reserved_zero_future_use_6 r.scrambling_sequence_index,
+      scrambling-size (unwrap_or r.scrambling_sequence_selector false) r.reserved_zero_future_use_6 r.scrambling_sequence_index,
       byte-size r.timeslice_number,
       bond-size (eqb r.channel_bond 1) r.reserved_zero_future_use_7 r.num_channel_bonds r.secondary_delivery_system_ids,
     )

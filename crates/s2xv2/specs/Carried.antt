@@ -5,11 +5,11 @@
 -- `carried`             that of a record
 use Rattle.std.specs.Prelude.{ℕ, List, [], ◌∷◌, get_or, eqb, ltb}
 use Rattle.wire.specs.Flags.{when, only}
-use Rattle.answers.specs.Options.{is_some_bool, selected}
 use Rattle.s2xv2.specs.declared.record.S2Xv2SatelliteDeliverySystem.{S2Xv2SatelliteDeliverySystem}
 use Rattle.s2xv2.specs.declared.superframe.S2Xv2Superframe.{S2Xv2Superframe}
-use Rattle.s2xv2.specs.declared.superframe.OptionSuperframe.{OptionSuperframe}
-use Rattle.s2xv2.specs.declared.superframe.OptionSuperframe.TheVariants as OS
+use Rattle.std.specs.Prelude.{None, Option, Some, is_some}
+use Rattle.std.specs.Option.{unwrap_or}
+use Rattle.std.specs.Prelude.{false}
 
 -- reserved_4 has no place where SFFI stands
 abbrev pub carried_block : S2Xv2Superframe → S2Xv2Superframe
@@ -27,9 +27,9 @@ carried_block f = record {
   postamble_pli = f.postamble_pli;
 }
 
-abbrev pub carried_superframe : OptionSuperframe → OptionSuperframe
-carried_superframe (OS.Some f) = OS.Some (carried_block f)
-carried_superframe OS.None = OS.None
+abbrev pub carried_superframe : Option S2Xv2Superframe → Option S2Xv2Superframe
+carried_superframe (Some f) = Some (carried_block f)
+carried_superframe None = None
 
 -- an id beyond the count is not on the wire
 abbrev pub carried_id : ℕ → ℕ → List ℕ → ℕ
@@ -48,14 +48,14 @@ carried r = record {
   channel_bond = r.channel_bond;
   polarization = r.polarization;
   scrambling_sequence_selector = r.scrambling_sequence_selector;
-  reserved_zero_future_use_1 = when (is_some_bool r.scrambling_sequence_selector) 0 r.reserved_zero_future_use_1;
+  reserved_zero_future_use_1 = when (is_some r.scrambling_sequence_selector) 0 r.reserved_zero_future_use_1;
   ts_gs_s2x_mode = r.ts_gs_s2x_mode;
   receiver_profiles = r.receiver_profiles;
   satellite_id = r.satellite_id;
   frequency = r.frequency;
   symbol_rate = r.symbol_rate;
   input_stream_identifier = r.input_stream_identifier;
-  reserved_zero_future_use_6 = only (selected r.scrambling_sequence_selector) r.reserved_zero_future_use_6;
+  reserved_zero_future_use_6 = only (unwrap_or r.scrambling_sequence_selector false) r.reserved_zero_future_use_6;
   scrambling_sequence_index = r.scrambling_sequence_index;
   timeslice_number = r.timeslice_number;
   reserved_zero_future_use_7 = only (eqb r.channel_bond 1) r.reserved_zero_future_use_7;

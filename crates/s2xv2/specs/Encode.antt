@@ -27,21 +27,16 @@ use Rattle.wire.specs.Flags.{when, bit}
 use Rattle.wire.specs.Parts.{Part, ◌⦂◌, bytes_of, sizes}
 use Rattle.s2xv2.specs.Table144b as T
 use Rattle.s2xv2.specs.Table144c.{code_of}
-use Rattle.answers.specs.Options.{selected, or_zero8, or_zero32}
 use Rattle.s2xv2.specs.declared.record.S2Xv2SatelliteDeliverySystem.{S2Xv2SatelliteDeliverySystem}
 use Rattle.s2xv2.specs.declared.superframe.S2Xv2Superframe.{S2Xv2Superframe}
-use Rattle.s2xv2.specs.declared.superframe.OptionSuperframe.{OptionSuperframe}
-use Rattle.s2xv2.specs.declared.superframe.OptionSuperframe.TheVariants as OS
-use Rattle.answers.specs.declared.option.OptionBool.{OptionBool}
-use Rattle.answers.specs.declared.option.OptionBool.TheVariants as OB
-use Rattle.answers.specs.declared.option.OptionU8.{OptionU8}
-use Rattle.answers.specs.declared.option.OptionU8.TheVariants as O8
-use Rattle.answers.specs.declared.option.OptionU32.{OptionU32}
+use Rattle.std.specs.Prelude.{None, Option, Some}
+use Rattle.std.specs.Option.{unwrap_or}
+use Rattle.std.specs.Prelude.{false}
 
 -- the top bit of byte 6: the selector, or what is reserved in its place
-abbrev pub top_bit : OptionBool → ℕ → ℕ
-top_bit (OB.Some b) reserved = bit b
-top_bit OB.None reserved = reserved
+abbrev pub top_bit : Option Bool → ℕ → ℕ
+top_bit (Some b) reserved = bit b
+top_bit None reserved = reserved
 
 abbrev pub core_values : S2Xv2SatelliteDeliverySystem → List ℕ
 core_values r =
@@ -63,12 +58,12 @@ core_values r =
     ∷ []
 
 -- a part of one byte: the stream id, and the timeslice
-unfoldable pub byte_parts : List ℕ → OptionU8 → List Part
-byte_parts ws (O8.Some v) = ws ⦂ (v ∷ []) ∷ []
-byte_parts ws O8.None = []
+unfoldable pub byte_parts : List ℕ → Option ℕ → List Part
+byte_parts ws (Some v) = ws ⦂ (v ∷ []) ∷ []
+byte_parts ws None = []
 
-unfoldable pub scrambling_parts : Bool → ℕ → OptionU32 → List Part
-scrambling_parts there reserved index = when there (T.scrambling ⦂ (reserved ∷ or_zero32 index ∷ []) ∷ []) []
+unfoldable pub scrambling_parts : Bool → ℕ → Option ℕ → List Part
+scrambling_parts there reserved index = when there (T.scrambling ⦂ (reserved ∷ unwrap_or index 0 ∷ []) ∷ []) []
 
 -- n ids, from the i-th on
 abbrev pub id_parts : ℕ → ℕ → List ℕ → List Part
@@ -79,8 +74,8 @@ unfoldable pub bond_parts : Bool → ℕ → ℕ → List ℕ → List Part
 bond_parts there reserved count ids = when there (T.bond_header ⦂ (reserved ∷ less_one count ∷ []) ∷ id_parts 0 count ids) []
 
 -- SFFI, or what is reserved in its place
-abbrev pub nibble_of : Bool → OptionU8 → ℕ → ℕ
-nibble_of selector sffi reserved = when selector (or_zero8 sffi) reserved
+abbrev pub nibble_of : Bool → Option ℕ → ℕ → ℕ
+nibble_of selector sffi reserved = when selector (unwrap_or sffi 0) reserved
 
 abbrev pub superframe_values : S2Xv2Superframe → List ℕ
 superframe_values f =
@@ -93,8 +88,8 @@ superframe_values f =
     ∷ f.payload_scrambling_index
     ∷ []
 
-abbrev pub plan_parts : Bool → OptionU32 → List Part
-plan_parts there plan = when there (T.plan ⦂ (or_zero32 plan ∷ []) ∷ []) []
+abbrev pub plan_parts : Bool → Option ℕ → List Part
+plan_parts there plan = when there (T.plan ⦂ (unwrap_or plan 0 ∷ []) ∷ []) []
 
 abbrev pub superframe_end_values : S2Xv2Superframe → List ℕ
 superframe_end_values f = f.superframe_pilots_wh_sequence_number ∷ f.postamble_pli ∷ []
@@ -108,9 +103,9 @@ block_parts f =
 abbrev pub block_length : S2Xv2Superframe → ℕ
 block_length f = sizes (block_parts f)
 
-unfoldable pub superframe_parts : OptionSuperframe → List Part
-superframe_parts (OS.Some f) = block_parts f
-superframe_parts OS.None = []
+unfoldable pub superframe_parts : Option S2Xv2Superframe → List Part
+superframe_parts (Some f) = block_parts f
+superframe_parts None = []
 
 -- ---- the parts of a record after its core
 
@@ -118,7 +113,7 @@ abbrev pub stream_of : S2Xv2SatelliteDeliverySystem → List Part
 stream_of r = byte_parts T.stream_id r.input_stream_identifier
 
 abbrev pub scrambling_of : S2Xv2SatelliteDeliverySystem → List Part
-scrambling_of r = scrambling_parts (selected r.scrambling_sequence_selector) r.reserved_zero_future_use_6 r.scrambling_sequence_index
+scrambling_of r = scrambling_parts (unwrap_or r.scrambling_sequence_selector false) r.reserved_zero_future_use_6 r.scrambling_sequence_index
 
 abbrev pub timeslice_of : S2Xv2SatelliteDeliverySystem → List Part
 timeslice_of r = byte_parts T.timeslice r.timeslice_number

@@ -1,7 +1,6 @@
 pub mod Table144b
 pub mod Table144c
 pub mod Default
-pub mod OptionSuperframe
 pub mod Read
 pub mod Encode
 pub mod ListA

@@ -9,13 +9,15 @@ use Rattle.std.specs.Prelude.{ℕ, List, [], ◌∷◌, ◌++◌, Bool, eqb}
 use Rattle.wire.specs.Widths.{wide}
 use Rattle.wire.specs.Flags.{and, not}
 use Rattle.s2xv2.specs.Table144c.{code_of}
-use Rattle.answers.specs.Options.{is_some_bool, is_some8, is_some32, selected, or_zero32}
 use Rattle.wire.specs.Count.{less_one}
 use Rattle.s2xv2.specs.Encode.{nibble_of}
 use Rattle.answers.specs.Tests.{first_of}
 use Rattle.s2xv2.specs.ListA.{in_superframe}
 use Rattle.s2xv2.specs.declared.record.S2Xv2SatelliteDeliverySystem.{S2Xv2SatelliteDeliverySystem}
-use Rattle.s2xv2.specs.declared.superframe.OptionSuperframe.{OptionSuperframe}
+use Rattle.std.specs.Prelude.{Option, is_some}
+use Rattle.std.specs.Option.{unwrap_or}
+use Rattle.std.specs.Prelude.{false}
+use Rattle.s2xv2.specs.declared.superframe.S2Xv2Superframe.{S2Xv2Superframe}
 
 -- the core
 abbrev pub core_b : S2Xv2SatelliteDeliverySystem → List Bool
@@ -25,7 +27,7 @@ core_b r =
     ∷ wide 2 r.reserved_zero_future_use_2  -- 3: reserved_2
     ∷ wide 2 r.channel_bond  -- 4: channel_bond
     ∷ wide 2 r.polarization  -- 5: polarization
-    ∷ and (not (is_some_bool r.scrambling_sequence_selector)) (wide 1 r.reserved_zero_future_use_1)  -- 6: reserved_1, where no selector stands
+    ∷ and (not (is_some r.scrambling_sequence_selector)) (wide 1 r.reserved_zero_future_use_1)  -- 6: reserved_1, where no selector stands
     ∷ wide 2 r.ts_gs_s2x_mode  -- 7: ts_gs_s2x_mode
     ∷ wide 5 r.receiver_profiles  -- 8: receiver_profiles
     ∷ wide 24 r.satellite_id  -- 9: satellite_id
@@ -34,9 +36,9 @@ core_b r =
 -- the scrambling index, where its selector is set
 abbrev pub scrambling_b : S2Xv2SatelliteDeliverySystem → List Bool
 scrambling_b r =
-    and (selected r.scrambling_sequence_selector) (not (is_some32 r.scrambling_sequence_index))  -- 10: index absent with selector set
-    ∷ and (selected r.scrambling_sequence_selector) (wide 18 (or_zero32 r.scrambling_sequence_index))  -- 11: index
-    ∷ and (selected r.scrambling_sequence_selector) (wide 6 r.reserved_zero_future_use_6)  -- 12: reserved_6
+    and (unwrap_or r.scrambling_sequence_selector false) (not (is_some r.scrambling_sequence_index))  -- 10: index absent with selector set
+    ∷ and (unwrap_or r.scrambling_sequence_selector false) (wide 18 (unwrap_or r.scrambling_sequence_index 0))  -- 11: index
+    ∷ and (unwrap_or r.scrambling_sequence_selector false) (wide 6 r.reserved_zero_future_use_6)  -- 12: reserved_6
     ∷ []
 
 -- the bonds, under channel_bond 1
@@ -47,14 +49,14 @@ bond_b r =
     ∷ []
 
 -- the superframe block
-abbrev pub superframe_b : OptionSuperframe → List Bool
+abbrev pub superframe_b : Option S2Xv2Superframe → List Bool
 superframe_b o =
     in_superframe (λ f. wide 20 f.reference_scrambling_index) o  -- 15: reference index
     ∷ in_superframe (λ f. wide 20 f.payload_scrambling_index) o  -- 16: payload index
     ∷ in_superframe (λ f. wide 2 f.reserved_zero_future_use_2) o  -- 17: superframe reserved_2
-    ∷ in_superframe (λ f. and f.sffi_selector (not (is_some8 f.sffi))) o  -- 18: SFFI absent with selector set
+    ∷ in_superframe (λ f. and f.sffi_selector (not (is_some f.sffi))) o  -- 18: SFFI absent with selector set
     ∷ in_superframe (λ f. wide 4 (nibble_of f.sffi_selector f.sffi f.reserved_zero_future_use_4)) o  -- 19: SFFI or its reserved nibble
-    ∷ in_superframe (λ f. and f.beam_hopping_time_plan_selector (not (is_some32 f.beamhopping_time_plan_id))) o  -- 20: plan id absent with selector set
+    ∷ in_superframe (λ f. and f.beam_hopping_time_plan_selector (not (is_some f.beamhopping_time_plan_id))) o  -- 20: plan id absent with selector set
     ∷ in_superframe (λ f. wide 5 f.superframe_pilots_wh_sequence_number) o  -- 21: pilots
     ∷ in_superframe (λ f. wide 3 f.postamble_pli) o  -- 22: postamble_pli
     ∷ []

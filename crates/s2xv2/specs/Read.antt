@@ -47,17 +47,14 @@ use Rattle.wire.specs.Widths.{size, cut, give, read}
 use Rattle.s2xv2.specs.Table144b as T
 use Rattle.s2xv2.specs.Table144c.{mode_of, has_selector, has_timeslice, has_superframe}
 use Rattle.s2xv2.specs.Default.{default_record}
-use Rattle.answers.specs.Options.{some_bool_if, some8_if, some32_if}
-use Rattle.s2xv2.specs.OptionSuperframe.{some_superframe_if}
 use Rattle.answers.specs.Answer.{numbers, told, saturated, number_of}
 use Rattle.answers.specs.declared.answer.Refusal.{Refusal}
 use Rattle.answers.specs.declared.answer.Refusal.TheVariants as R
-use Rattle.answers.specs.declared.answer.Answer.TheVariants as A
 use Rattle.s2xv2.specs.declared.record.S2Xv2SatelliteDeliverySystem.{S2Xv2SatelliteDeliverySystem}
 use Rattle.s2xv2.specs.declared.superframe.S2Xv2Superframe.{S2Xv2Superframe}
-use Rattle.s2xv2.specs.declared.superframe.OptionSuperframe.{OptionSuperframe}
-use Rattle.answers.specs.declared.option.OptionU8.{OptionU8}
-use Rattle.answers.specs.declared.option.OptionU32.{OptionU32}
+use Rattle.std.specs.Prelude.{Option}
+use Rattle.std.specs.Bool.{then_some}
+use Rattle.std.specs.Prelude.{Ok}
 
 -- ---- which parts are there
 
@@ -165,7 +162,7 @@ short_of s n = R.Short n.place n.need (length s) (least_total s)
 -- ---- the record
 
 -- the superframe block of its first fields, the plan id, and the fields of its last byte
-abbrev pub superframe_from : List ℕ → OptionU32 → List ℕ → S2Xv2Superframe
+abbrev pub superframe_from : List ℕ → Option ℕ → List ℕ → S2Xv2Superframe
 superframe_from vs plan ws =
     give T.superframe (λ sosf selector hopping reserved reference nibble payload. give T.last_byte (λ pilots pli. record {
       sosf_wh_sequence_number = sosf;
@@ -173,7 +170,7 @@ superframe_from vs plan ws =
       beam_hopping_time_plan_selector = is_one hopping;
       reserved_zero_future_use_2 = reserved;
       reference_scrambling_index = reference;
-      sffi = some8_if (is_one selector) nibble;
+      sffi = then_some (is_one selector) nibble;
       reserved_zero_future_use_4 = when (is_one selector) 0 nibble;
       payload_scrambling_index = payload;
       beamhopping_time_plan_id = plan;
@@ -182,8 +179,8 @@ superframe_from vs plan ws =
     }) ws) vs
 
 -- the block that starts with byte p, with or without a plan id
-abbrev pub plan_at : List ℕ → ℕ → Bool → OptionU32
-plan_at s p plan = some32_if plan (read T.plan s (p + size T.superframe) (λ id. id))
+abbrev pub plan_at : List ℕ → ℕ → Bool → Option ℕ
+plan_at s p plan = then_some plan (read T.plan s (p + size T.superframe) (λ id. id))
 
 unfoldable pub superframe_at : List ℕ → ℕ → Bool → S2Xv2Superframe
 superframe_at s p plan =
@@ -191,17 +188,17 @@ superframe_at s p plan =
     (cut s (p + when plan (size (T.superframe ++ T.plan)) (size T.superframe)) T.last_byte)
 
 -- the other parts, that start with byte p if they are there
-abbrev pub stream_id_at : List ℕ → ℕ → Bool → OptionU8
-stream_id_at s p there = some8_if there (read T.stream_id s p (λ v. v))
+abbrev pub stream_id_at : List ℕ → ℕ → Bool → Option ℕ
+stream_id_at s p there = then_some there (read T.stream_id s p (λ v. v))
 
-abbrev pub timeslice_at : List ℕ → ℕ → Bool → OptionU8
-timeslice_at s p there = some8_if there (read T.timeslice s p (λ v. v))
+abbrev pub timeslice_at : List ℕ → ℕ → Bool → Option ℕ
+timeslice_at s p there = then_some there (read T.timeslice s p (λ v. v))
 
 abbrev pub reserved6_at : List ℕ → ℕ → Bool → ℕ
 reserved6_at s p there = only there (read T.scrambling s p (λ reserved _. reserved))
 
-abbrev pub index_at : List ℕ → ℕ → Bool → OptionU32
-index_at s p there = some32_if there (read T.scrambling s p (λ _ index. index))
+abbrev pub index_at : List ℕ → ℕ → Bool → Option ℕ
+index_at s p there = then_some there (read T.scrambling s p (λ _ index. index))
 
 abbrev pub reserved7_at : List ℕ → ℕ → Bool → ℕ
 reserved7_at s p there = only there (read T.bond_header s p (λ reserved _. reserved))
@@ -216,7 +213,7 @@ abbrev pub second_id_at : List ℕ → ℕ → Bool → Bool → ℕ
 second_id_at s p there second = only (and there second) (read T.bond_id s (p + size (T.bond_header ++ T.bond_id)) (λ id. id))
 
 -- the record of the core's values and of what the other parts hold
-abbrev pub record_from : List ℕ → OptionU8 → ℕ → OptionU32 → OptionU8 → ℕ → ℕ → ℕ → ℕ → OptionSuperframe → S2Xv2SatelliteDeliverySystem
+abbrev pub record_from : List ℕ → Option ℕ → ℕ → Option ℕ → Option ℕ → ℕ → ℕ → ℕ → ℕ → Option S2Xv2Superframe → S2Xv2SatelliteDeliverySystem
 record_from vs stream reserved6 index timeslice reserved7 count first second superframe =
     give T.core (λ id mode flag roll_off reserved2 reference version bond polarization top tsgs profiles satellite frequency rate. record {
       delivery_system_id = id;
@@ -228,7 +225,7 @@ record_from vs stream reserved6 index timeslice reserved7 count first second sup
       ncr_version = is_one version;
       channel_bond = bond;
       polarization = polarization;
-      scrambling_sequence_selector = some_bool_if (has_selector (mode_of mode)) (is_one top);
+      scrambling_sequence_selector = then_some (has_selector (mode_of mode)) (is_one top);
       reserved_zero_future_use_1 = when (has_selector (mode_of mode)) 0 top;
       ts_gs_s2x_mode = tsgs;
       receiver_profiles = profiles;
@@ -254,7 +251,7 @@ record_at s k scrambling timeslice bond superframe =
     (timeslice_at s timeslice k.timeslice)
     (reserved7_at s bond k.bond) (count_if k.bond (has_second s bond))
     (first_id_at s bond k.bond) (second_id_at s bond k.bond (has_second s bond))
-    (some_superframe_if k.superframe (superframe_at s superframe (has_plan s superframe)))
+    (then_some k.superframe (superframe_at s superframe (has_plan s superframe)))
 
 -- each part starts where the one before it ends
 abbrev pub record_of : List ℕ → Present → S2Xv2SatelliteDeliverySystem
@@ -269,7 +266,7 @@ record_in s = record_of s (present_in s)
 unfoldable pub read_told : List ℕ → List ℕ
 read_told s =
     when (ltb 4096 (length s)) (numbers (R.Long (saturated (length s))))
-    (short_told (short_of s) (length s) (needs s (present_in s)) (told (A.Accepted (body_size s))))
+    (short_told (short_of s) (length s) (needs s (present_in s)) (told (Ok (body_size s))))
 
 -- what the reader answers: the numbers told, and the record shown
 pub record Reading : Type 0 where

@@ -5,11 +5,11 @@ use Rattle.std.specs.Prelude.{ℕ, List, ◌++◌, length, drop, eqb, ltb}
 use Rattle.wire.specs.Flags.{when}
 use Rattle.answers.specs.Answer.{numbers, told, saturated, number_of}
 use Rattle.answers.specs.declared.answer.Refusal.TheVariants as R
-use Rattle.answers.specs.declared.answer.Answer.TheVariants as A
 use Rattle.s2xv2.specs.Encode.{encode, encoded_length}
 use Rattle.s2xv2.specs.ListA.{inconsistency}
 use Rattle.s2xv2.specs.ListB.{unwritable}
 use Rattle.s2xv2.specs.declared.record.S2Xv2SatelliteDeliverySystem.{S2Xv2SatelliteDeliverySystem}
+use Rattle.std.specs.Prelude.{Ok}
 
 -- 3, 2, 5, 4, in this order, else accepted with the length
 unfoldable pub write_told : S2Xv2SatelliteDeliverySystem → List ℕ → ℕ → List ℕ
@@ -17,7 +17,7 @@ write_told r tail room =
     when (ltb 0 (inconsistency r)) (numbers (R.Inconsistent (inconsistency r)))
     (when (ltb 4096 (encoded_length r tail)) (numbers (R.Long (saturated (encoded_length r tail))))
     (when (ltb room (encoded_length r tail)) (numbers (R.Room (encoded_length r tail) room))
-    (when (ltb 0 (unwritable r)) (numbers (R.Field (unwritable r))) (told (A.Accepted (encoded_length r tail))))))
+    (when (ltb 0 (unwritable r)) (numbers (R.Field (unwritable r))) (told (Ok (encoded_length r tail))))))
 
 -- the encoding and then the old bytes if the record is accepted, and the old bytes alone if it is refused
 unfoldable pub written : S2Xv2SatelliteDeliverySystem → List ℕ → List ℕ → List ℕ

@@ -4,7 +4,7 @@ ghost use Rattle.wire.specs.Flags.{only, is_one};
 ghost use Rattle.s2xv2.specs.Table144c.{mode_of, code_of, has_selector, has_timeslice, has_superframe};
 
 // The six codes that the table names, and all others.
-#[derive(Clone, Copy)]
+#[derive(Clone, Copy, PartialEq, Eq)]
 pub enum S2Xv2Mode {
     // Reserved for future use (0).
     Reserved0,
@@ -23,7 +23,7 @@ pub enum S2Xv2Mode {
 }
 
 // A row of the table: which of the parts that Table 144b has in some modes only are there.
-#[derive(Clone, Copy)]
+#[derive(Clone, Copy, PartialEq, Eq)]
 pub struct ModeRow {
     // The top bit of byte 6 is scrambling_sequence_selector.
     pub selector: bool,
@@ -33,7 +33,7 @@ pub struct ModeRow {
     pub superframe: bool,
 }
 
-// What stands in a row: the sum of the parts that are there.
+// What stands in a row: the sum of the parts that are there. A sum, and no struct of flags, so that a row is one line, as in the table.
 const NONE: u8 = 0;
 
 const SELECTOR: u8 = 1;
@@ -101,7 +101,7 @@ fn parts_of(row: u8) -> ModeRow
 }
 
 impl S2Xv2Mode {
-    // The mode of a code; every number has one.
+    // The mode of a code; every number has one. `from_u8` and `to_u8` are the names that the crate has, and so no `From`.
     #[tactic(auto, unfolding(crate::specs::Table144c::mode_of))]
     pub fn from_u8(v: u8) -> S2Xv2Mode
         ensures { result ≡ mode_of v }

@@ -3,11 +3,10 @@ ghost use Rattle.std.specs.Prelude.{◌≡◌};
 ghost use Rattle.s2xv2.specs.Default.{default_record};
 
 use crate::mode::S2Xv2Mode;
-use crate::superframe::OptionSuperframe;
-use answers::option::{OptionBool, OptionU8, OptionU32};
+use crate::superframe::S2Xv2Superframe;
 
 // The record: the fields of a body in wire order.
-#[derive(Clone, Copy)]
+#[derive(Clone, Copy, PartialEq, Eq)]
 pub struct S2Xv2SatelliteDeliverySystem {
     // delivery_system_id, 32 bits.
     pub delivery_system_id: u32,
@@ -28,7 +27,7 @@ pub struct S2Xv2SatelliteDeliverySystem {
     // polarization, 2 bits: its code.
     pub polarization: u8,
     // scrambling_sequence_selector, in modes 1 and 2: whether `scrambling_sequence_index` is there.
-    pub scrambling_sequence_selector: OptionBool,
+    pub scrambling_sequence_selector: Option<bool>,
     // The bit in the selector's place in the other modes.
     pub reserved_zero_future_use_1: u8,
     // TS_GS_S2X_mode, 2 bits.
@@ -42,20 +41,20 @@ pub struct S2Xv2SatelliteDeliverySystem {
     // symbol_rate, 32 bits.
     pub symbol_rate: u32,
     // input_stream_identifier, 8 bits.
-    pub input_stream_identifier: OptionU8,
+    pub input_stream_identifier: Option<u8>,
     // The 6 bits before scrambling_sequence_index, on the wire only with it.
     pub reserved_zero_future_use_6: u8,
     // scrambling_sequence_index, 18 bits.
-    pub scrambling_sequence_index: OptionU32,
+    pub scrambling_sequence_index: Option<u32>,
     // timeslice_number, 8 bits, in modes 2 and 5.
-    pub timeslice_number: OptionU8,
+    pub timeslice_number: Option<u8>,
     // The 7 bits before num_channel_bonds_minus_one, on the wire only with it.
     pub reserved_zero_future_use_7: u8,
-    // secondary_delivery_system_id, 32 bits each: the first `num_channel_bonds` of the two count.
+    // secondary_delivery_system_id, 32 bits each: the first `num_channel_bonds` of the two count. No `Vec`: the record is a value and nothing allocates.
     pub secondary_delivery_system_ids: [u32; 2],
     pub num_channel_bonds: u8,
     // The superframe block, in modes 4 and 5.
-    pub superframe: OptionSuperframe,
+    pub superframe: Option<S2Xv2Superframe>,
 }
 
 // Mode 0, and all else 0, clear or absent.
@@ -69,28 +68,28 @@ const DEFAULT: S2Xv2SatelliteDeliverySystem = S2Xv2SatelliteDeliverySystem {
     ncr_version: false,
     channel_bond: 0,
     polarization: 0,
-    scrambling_sequence_selector: OptionBool::None,
+    scrambling_sequence_selector: None,
     reserved_zero_future_use_1: 0,
     ts_gs_s2x_mode: 0,
     receiver_profiles: 0,
     satellite_id: 0,
     frequency: 0,
     symbol_rate: 0,
-    input_stream_identifier: OptionU8::None,
+    input_stream_identifier: None,
     reserved_zero_future_use_6: 0,
-    scrambling_sequence_index: OptionU32::None,
-    timeslice_number: OptionU8::None,
+    scrambling_sequence_index: None,
+    timeslice_number: None,
     reserved_zero_future_use_7: 0,
     secondary_delivery_system_ids: [0, 0],
     num_channel_bonds: 0,
-    superframe: OptionSuperframe::None,
+    superframe: None,
 };
 
-impl S2Xv2SatelliteDeliverySystem {
+impl Default for S2Xv2SatelliteDeliverySystem {
+    ghost is_default = { λ r. r ≡ default_record };
+
     // The crate's `Default`.
-    pub fn default() -> S2Xv2SatelliteDeliverySystem
-        ensures { result ≡ default_record }
-    {
+    fn default() -> S2Xv2SatelliteDeliverySystem {
         DEFAULT
     }
 }

@@ -3,10 +3,8 @@ ghost use Rattle.std.specs.Prelude.{◌≡◌};
 ghost use Rattle.s2xv2.specs.Default.{default_superframe};
 ghost use Rattle.s2xv2.specs.Encode.{block_length};
 
-use answers::option::{OptionU8, OptionU32};
-
 // The fields of the block in wire order.
-#[derive(Clone, Copy)]
+#[derive(Clone, Copy, PartialEq, Eq)]
 pub struct S2Xv2Superframe {
     // SOSF_WH_sequence_number, 8 bits.
     pub sosf_wh_sequence_number: u8,
@@ -19,46 +17,41 @@ pub struct S2Xv2Superframe {
     // reference_scrambling_index, 20 bits.
     pub reference_scrambling_index: u32,
     // SFFI, 4 bits.
-    pub sffi: OptionU8,
+    pub sffi: Option<u8>,
     // The 4 bits in the place of SFFI where its selector is clear.
     pub reserved_zero_future_use_4: u8,
     // payload_scrambling_index, 20 bits.
     pub payload_scrambling_index: u32,
     // beamhopping_time_plan_id, 32 bits.
-    pub beamhopping_time_plan_id: OptionU32,
+    pub beamhopping_time_plan_id: Option<u32>,
     // superframe_pilots_WH_sequence_number, 5 bits.
     pub superframe_pilots_wh_sequence_number: u8,
     // postamble_PLI, 3 bits.
     pub postamble_pli: u8,
 }
 
-// A superframe block that may be absent.
-#[derive(Clone, Copy)]
-pub enum OptionSuperframe {
-    None,
-    Some(S2Xv2Superframe),
-}
+impl Default for S2Xv2Superframe {
+    ghost is_default = { λ f. f ≡ default_superframe };
 
-impl S2Xv2Superframe {
     // All fields 0, clear or absent.
-    pub fn default() -> S2Xv2Superframe
-        ensures { result ≡ default_superframe }
-    {
+    fn default() -> S2Xv2Superframe {
         S2Xv2Superframe {
             sosf_wh_sequence_number: 0,
             sffi_selector: false,
             beam_hopping_time_plan_selector: false,
             reserved_zero_future_use_2: 0,
             reference_scrambling_index: 0,
-            sffi: OptionU8::None,
+            sffi: None,
             reserved_zero_future_use_4: 0,
             payload_scrambling_index: 0,
-            beamhopping_time_plan_id: OptionU32::None,
+            beamhopping_time_plan_id: None,
             superframe_pilots_wh_sequence_number: 0,
             postamble_pli: 0,
         }
     }
+}
 
+impl S2Xv2Superframe {
     // How many bytes the block takes: 8, or 12 with a plan id.
     pub fn serialized_len(self) -> usize
         ensures { result ≡ block_length self }

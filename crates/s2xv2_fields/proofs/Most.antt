@@ -4,24 +4,19 @@
 use Rattle.std.specs.Prelude.{ℕ, ◌+◌, eqb, List, length}
 use native.Mathlib.Omega.{arith}
 use Rattle.s2xv2.specs.declared.record.S2Xv2SatelliteDeliverySystem.{S2Xv2SatelliteDeliverySystem}
-use Rattle.s2xv2.specs.declared.superframe.OptionSuperframe.{OptionSuperframe}
-use Rattle.s2xv2.specs.declared.superframe.OptionSuperframe.TheVariants as OS
-use Rattle.answers.specs.declared.option.OptionBool.{OptionBool}
-use Rattle.answers.specs.declared.option.OptionBool.TheVariants as OB
-use Rattle.answers.specs.declared.option.OptionU8.{OptionU8}
-use Rattle.answers.specs.declared.option.OptionU8.TheVariants as O8
-use Rattle.answers.specs.declared.option.OptionU32.{OptionU32}
-use Rattle.answers.specs.declared.option.OptionU32.TheVariants as O32
 use Rattle.lines.specs.Line.{codes}
 use Rattle.lines.proofs.Length.{Most, more, none, two, three, four, line-most, either, upto, empty}
 use Rattle.s2xv2_fields.specs.Fields as F
+use Rattle.std.specs.Prelude.{None, Option, Some}
+use Rattle.std.specs.Prelude.{Bool}
+use Rattle.s2xv2.specs.declared.superframe.S2Xv2Superframe.{S2Xv2Superframe}
 
 -- ---- the core
 
-top-most : (o : OptionBool) (v : ℕ) → Most (F.top_of o v) 40
-unfolding F.top_of
-top-most (OB.Some b) v = line-most _ _
-top-most OB.None v = upto 40 (omega arith) (line-most (codes "reserved_zero_future_use_1") v)
+top-most : (o : Option Bool) (v : ℕ) → Most (F.top_of o v) 40
+unfolding F.line_or
+top-most (Some b) v = line-most _ _
+top-most None v = upto 40 (omega arith) (line-most (codes "reserved_zero_future_use_1") v)
 
 pub core-most : (n : ℕ) (r : S2Xv2SatelliteDeliverySystem) → Most (F.core_text n r) 424
 unfolding F.core_text F.core_lines
@@ -33,20 +28,15 @@ core-most n r =
 
 -- ---- the parts that may be there
 
-line8-most : (name : List ℕ) (o : OptionU8) → Most (F.line8 name o) (length name + 12)
-unfolding F.line8
-line8-most name (O8.Some v) = line-most name v
-line8-most name O8.None = empty (length name + 12)
+number-most : (name : List ℕ) (o : Option ℕ) → Most (F.number_if name o) (length name + 12)
+unfolding F.line_if
+number-most name (Some v) = line-most name v
+number-most name None = empty (length name + 12)
 
-line32-most : (name : List ℕ) (o : OptionU32) → Most (F.line32 name o) (length name + 12)
-unfolding F.line32
-line32-most name (O32.Some v) = line-most name v
-line32-most name O32.None = empty (length name + 12)
-
-scrambling-most : (o : OptionU32) (v : ℕ) → Most (F.scrambling_of o v) 75
+scrambling-most : (o : Option ℕ) (v : ℕ) → Most (F.scrambling_of o v) 75
 unfolding F.scrambling_of
-scrambling-most (O32.Some i) v = two (line-most _ _) (line-most _ _)
-scrambling-most O32.None v = empty 75
+scrambling-most (Some i) v = two (line-most _ _) (line-most _ _)
+scrambling-most None v = empty 75
 
 second-most : (count v : ℕ) → Most (F.second_of count v) 40
 unfolding F.second_of
@@ -58,19 +48,19 @@ bonds-most count v a b = either (eqb count 0) (empty 118) (three (line-most _ _)
 
 pub parts-most : (r : S2Xv2SatelliteDeliverySystem) → Most (F.parts_text r) 256
 unfolding F.parts_text
-parts-most r = four (line8-most _ _) (scrambling-most _ _) (line8-most _ _) (bonds-most _ _ _ _)
+parts-most r = four (number-most _ _) (scrambling-most _ _) (number-most _ _) (bonds-most _ _ _ _)
 
 -- ---- the superframe block
 
-nibble-most : (o : OptionU8) (v : ℕ) → Most (F.nibble_line o v) 38
-unfolding F.nibble_line
-nibble-most (O8.Some s) v = upto 38 (omega arith) (line-most (codes "sffi") s)
-nibble-most O8.None v = line-most _ _
+nibble-most : (o : Option ℕ) (v : ℕ) → Most (F.nibble_line o v) 38
+unfolding F.line_or
+nibble-most (Some s) v = upto 38 (omega arith) (line-most (codes "sffi") s)
+nibble-most None v = line-most _ _
 
-pub superframe-most : (o : OptionSuperframe) → Most (F.superframe_text o) 362
+pub superframe-most : (o : Option S2Xv2Superframe) → Most (F.superframe_text o) 362
 unfolding F.superframe_text F.block_lines
-superframe-most (OS.Some f) =
+superframe-most (Some f) =
     more _ (line-most _ _) (more _ (line-most _ _) (more _ (line-most _ _) (more _ (line-most _ _)
-    (more _ (line-most _ _) (more _ (nibble-most _ _) (more _ (line-most _ _) (more _ (line32-most _ _)
+    (more _ (line-most _ _) (more _ (nibble-most _ _) (more _ (line-most _ _) (more _ (number-most _ _)
     (more _ (line-most _ _) (more _ (line-most _ _) none)))))))))
-superframe-most OS.None = empty 362
+superframe-most None = empty 362

@@ -1,9 +1,11 @@
 -- A record as lines, each field that is on the wire under the name that the Rust has for it, in wire order. What stands
 -- behind a field that is absent has no line. Assumes nothing.
+-- `line_or`          the line of a value, or that of what is reserved in its place
 -- `top_of`           the line of the top bit of byte 6
 -- `core_lines`       the lines of the core
 -- `core_text`        the text of the core, with the line of the body's length before it
--- `line8`, `line32`  the line of a number that may be absent
+-- `line_if`          the line of a value that may be absent, by the number that it is shown as
+-- `number_if`        that of a number
 -- `scrambling_of`    the lines of the scrambling index and of what is reserved before it
 -- `second_of`        the line of the second id
 -- `bonds_of`         the lines of the bonds
@@ -16,23 +18,21 @@ use Rattle.wire.specs.Flags.{when, bit}
 use Rattle.s2xv2.specs.Table144c.{code_of}
 use Rattle.s2xv2.specs.declared.record.S2Xv2SatelliteDeliverySystem.{S2Xv2SatelliteDeliverySystem}
 use Rattle.s2xv2.specs.declared.superframe.S2Xv2Superframe.{S2Xv2Superframe}
-use Rattle.s2xv2.specs.declared.superframe.OptionSuperframe.{OptionSuperframe}
-use Rattle.s2xv2.specs.declared.superframe.OptionSuperframe.TheVariants as OS
-use Rattle.answers.specs.declared.option.OptionBool.{OptionBool}
-use Rattle.answers.specs.declared.option.OptionBool.TheVariants as OB
-use Rattle.answers.specs.declared.option.OptionU8.{OptionU8}
-use Rattle.answers.specs.declared.option.OptionU8.TheVariants as O8
-use Rattle.answers.specs.declared.option.OptionU32.{OptionU32}
-use Rattle.answers.specs.declared.option.OptionU32.TheVariants as O32
 use Rattle.lines.specs.Out.{joined}
 use Rattle.lines.specs.Line.{codes, line_of}
+use Rattle.std.specs.Prelude.{None, Option, Some}
+use Rattle.std.specs.Prelude.{Bool}
 
 -- ---- the core
 
+-- a value under its name, or what is reserved in its place under its own; `shown` says which number the value is shown as
+unfoldable pub line_or : {T : Type 0} → (T → ℕ) → List ℕ → Option T → List ℕ → ℕ → List ℕ
+line_or shown name (Some v) other reserved = line_of name (shown v)
+line_or shown name None other reserved = line_of other reserved
+
 -- the top bit of byte 6: the selector, or what is reserved in its place
-unfoldable pub top_of : OptionBool → ℕ → List ℕ
-top_of (OB.Some b) reserved = line_of (codes "scrambling_sequence_selector") (bit b)
-top_of OB.None reserved = line_of (codes "reserved_zero_future_use_1") reserved
+abbrev pub top_of : Option Bool → ℕ → List ℕ
+top_of selector reserved = line_or bit (codes "scrambling_sequence_selector") selector (codes "reserved_zero_future_use_1") reserved
 
 -- the fields from delivery_system_id to symbol_rate
 unfoldable pub core_lines : S2Xv2SatelliteDeliverySystem → List (List ℕ)
@@ -60,20 +60,20 @@ core_text length r = joined (line_of (codes "s2xv2") length ∷ core_lines r)
 
 -- ---- the parts that may be there
 
--- the line of a number that may be absent: none then
-unfoldable pub line8 : List ℕ → OptionU8 → List ℕ
-line8 name (O8.Some v) = line_of name v
-line8 name O8.None = []
+-- the line of a value that may be absent: none then
+unfoldable pub line_if : {T : Type 0} → (T → ℕ) → List ℕ → Option T → List ℕ
+line_if shown name (Some v) = line_of name (shown v)
+line_if shown name None = []
 
-unfoldable pub line32 : List ℕ → OptionU32 → List ℕ
-line32 name (O32.Some v) = line_of name v
-line32 name O32.None = []
+-- that of a number, which is shown as it is
+abbrev pub number_if : List ℕ → Option ℕ → List ℕ
+number_if name v = line_if (λ n. n) name v
 
 -- what is reserved before the index is there with it
-unfoldable pub scrambling_of : OptionU32 → ℕ → List ℕ
-scrambling_of (O32.Some index) reserved =
+unfoldable pub scrambling_of : Option ℕ → ℕ → List ℕ
+scrambling_of (Some index) reserved =
     joined (line_of (codes "reserved_zero_future_use_6") reserved ∷ line_of (codes "scrambling_sequence_index") index ∷ [])
-scrambling_of O32.None reserved = []
+scrambling_of None reserved = []
 
 -- the second id, which is there unless the count is 1
 unfoldable pub second_of : ℕ → ℕ → List ℕ
@@ -93,18 +93,17 @@ bonds_of count reserved first second =
 unfoldable pub parts_text : S2Xv2SatelliteDeliverySystem → List ℕ
 parts_text r =
     joined
-    (line8 (codes "input_stream_identifier") r.input_stream_identifier
+    (number_if (codes "input_stream_identifier") r.input_stream_identifier
     ∷ scrambling_of r.scrambling_sequence_index r.reserved_zero_future_use_6
-    ∷ line8 (codes "timeslice_number") r.timeslice_number
+    ∷ number_if (codes "timeslice_number") r.timeslice_number
     ∷ bonds_of r.num_channel_bonds r.reserved_zero_future_use_7 (slice_index r.secondary_delivery_system_ids 0) (slice_index r.secondary_delivery_system_ids 1)
     ∷ [])
 
 -- ---- the superframe block
 
 -- SFFI, or what is reserved in its place
-unfoldable pub nibble_line : OptionU8 → ℕ → List ℕ
-nibble_line (O8.Some v) reserved = line_of (codes "sffi") v
-nibble_line O8.None reserved = line_of (codes "reserved_zero_future_use_4") reserved
+abbrev pub nibble_line : Option ℕ → ℕ → List ℕ
+nibble_line sffi reserved = line_or (λ n. n) (codes "sffi") sffi (codes "reserved_zero_future_use_4") reserved
 
 -- the fields from SOSF_WH to postamble_PLI
 unfoldable pub block_lines : S2Xv2Superframe → List (List ℕ)
@@ -116,12 +115,12 @@ block_lines f =
     ∷ line_of (codes "reference_scrambling_index") f.reference_scrambling_index
     ∷ nibble_line f.sffi f.reserved_zero_future_use_4
     ∷ line_of (codes "payload_scrambling_index") f.payload_scrambling_index
-    ∷ line32 (codes "beamhopping_time_plan_id") f.beamhopping_time_plan_id
+    ∷ number_if (codes "beamhopping_time_plan_id") f.beamhopping_time_plan_id
     ∷ line_of (codes "superframe_pilots_wh_sequence_number") f.superframe_pilots_wh_sequence_number
     ∷ line_of (codes "postamble_pli") f.postamble_pli
     ∷ []
 
 -- a block that is absent has no line
-unfoldable pub superframe_text : OptionSuperframe → List ℕ
-superframe_text (OS.Some f) = joined (block_lines f)
-superframe_text OS.None = []
+unfoldable pub superframe_text : Option S2Xv2Superframe → List ℕ
+superframe_text (Some f) = joined (block_lines f)
+superframe_text None = []

@@ -5,7 +5,8 @@
 -- `needs_to`     the ends with their places
 -- `least_to`     the least total by the ends
 -- `short_to`     answer 1 by the ends
-use Rattle.std.specs.Prelude.{ℕ, List, [], ◌∷◌, ltb}
+-- `reached`      that of a part whose end is not reached, and nothing else of one whose end is
+use Rattle.std.specs.Prelude.{ℕ, List, [], ◌∷◌, ltb, Result, Ok, Err}
 use Rattle.wire.specs.Flags.{when}
 use Rattle.wire.specs.Widths.{size}
 use Rattle.s2xv2.specs.Table144b as T
@@ -71,3 +72,6 @@ least_to have e = when (ltb have (size T.core)) (size T.core) (when (ltb have e.
 
 abbrev pub short_to : ℕ → Ends → Need → Refusal
 short_to have e n = A.Short n.place n.need have (least_to have e)
+
+abbrev pub reached : ℕ → ℕ → ℕ → ℕ → Result (Unit {0}) Refusal
+reached place need have least = when (ltb have need) (Err (A.Short place need have least)) (Ok tt)

@@ -8,7 +8,7 @@ use wire::field::flag;
 pub(crate) fn byte(s: &[u8], i: usize) -> u8
     ensures { result ≡ get_or s.now i 0 }
 {
-    if i < s.len() { s[i] } else { 0 }
+    s.get(i).copied().unwrap_or(0)
 }
 
 // Whether the bit of weight `d` is set in byte `i`.

@@ -1,7 +1,6 @@
 // Where the parts of a body end.
 ghost use Rattle.std.specs.Prelude.{◌≡◌, ◌≤◌};
-ghost use Rattle.wire.specs.Flags.{only};
-ghost use Rattle.s2xv2.specs.Read.{bond_size, superframe_size, plan_size};
+ghost use Rattle.wire.specs.Flags.{only, when};
 ghost use Rattle.s2xv2_layout.specs.Layout.{ends_now};
 
 use crate::bytes::flag_at;
@@ -32,25 +31,12 @@ fn only(there: bool, n: usize) -> usize
     if there { n } else { 0 }
 }
 
-// The bonds with one id or two.
-fn bond_size(second: bool) -> usize
-    ensures { (result ≡ bond_size second) × (result ≤ 9) }
+// One size or the other, by a flag: the longer with what it says is there.
+fn size_by(there: bool, long: usize, short: usize) -> usize
+    requires { short ≤ long }
+    ensures { (result ≡ when there long short) × (result ≤ long) }
 {
-    if second { 9 } else { 5 }
-}
-
-// The superframe block with a plan id or without.
-fn superframe_size(plan: bool) -> usize
-    ensures { (result ≡ superframe_size plan) × (result ≤ 12) }
-{
-    if plan { 12 } else { 8 }
-}
-
-// How far the plan id goes; without one, as far as the block.
-fn plan_size(plan: bool) -> usize
-    ensures { (result ≡ plan_size plan) × (result ≤ 11) }
-{
-    if plan { 11 } else { 8 }
+    if there { long } else { short }
 }
 
 // Where the parts of a body end, given which of them it has. Bytes behind the end of the body count as 0.
@@ -61,7 +47,7 @@ pub fn ends_of(s: &[u8], k: Present) -> Ends
     let scrambling = stream + only(k.scrambling, 3);
     let timeslice = scrambling + only(k.timeslice, 1);
     let second = flag_at(s, timeslice, 1);
-    let bond = timeslice + only(k.bond, bond_size(second));
+    let bond = timeslice + only(k.bond, size_by(second, 9, 5));
     let plan = flag_at(s, bond + 1, 64);
     Ends {
         stream,
@@ -73,7 +59,7 @@ pub fn ends_of(s: &[u8], k: Present) -> Ends
         bond,
         block: bond + only(k.superframe, 8),
         plan,
-        plan_id: bond + only(k.superframe, plan_size(plan)),
-        superframe: bond + only(k.superframe, superframe_size(plan)),
+        plan_id: bond + only(k.superframe, size_by(plan, 11, 8)),
+        superframe: bond + only(k.superframe, size_by(plan, 12, 8)),
     }
 }

@@ -1,19 +1,11 @@
 // Which part of a body is missing.
-ghost use Rattle.std.specs.Prelude.{◌≡◌, [], ◌∷◌, eqb, ltb};
-ghost use Rattle.wire.specs.Flags.{when};
+ghost use Rattle.std.specs.Prelude.{◌≡◌, [], ◌∷◌};
 ghost use Rattle.answers.specs.Answer.{told};
 ghost use Rattle.answers.specs.Short.{short_told};
-ghost use Rattle.s2xv2_layout.specs.Layout.{needs_to, least_to, short_to};
+ghost use Rattle.s2xv2_layout.specs.Layout.{needs_to, least_to, short_to, reached};
 
 use crate::ends::Ends;
-use answers::answer::{Answer, Refusal};
-
-// A part whose end a body does not reach: its place in answer 1, and where it ends. Place 0 is none.
-#[derive(Clone, Copy)]
-struct Lack {
-    place: u8,
-    need: usize,
-}
+use answers::answer::Refusal;
 
 // How long the whole has to be at the least, by what is there of it: the core; then all that it asks for, with a superframe block counted without a plan
 // id until that much of it is there.
@@ -29,47 +21,36 @@ fn least_total(have: usize, e: Ends) -> usize
     }
 }
 
-// The part at `place` if a body of `have` bytes does not reach `need`, and else what it lacks of the parts behind.
-fn reaching(need: usize, place: u8, have: usize, behind: Lack) -> Lack
-    ensures { result ≡ when (ltb have need) (record { place = place; need = need }) behind }
+// Refuses a body of `have` bytes if it does not reach `need`, where the part at `place` ends.
+fn reach(place: u8, need: usize, have: usize, least: usize) -> Result<(), Refusal>
+    ensures { result ≡ reached place need have least }
 {
     if have < need {
-        Lack { place, need }
-    } else {
-        behind
+        return Err(Refusal::Short {
+            place,
+            need,
+            have,
+            least,
+        });
     }
-}
-
-// Accepts a body that lacks no part, and tells its `end`; else refuses it at the part that it lacks.
-fn answered(lack: Lack, have: usize, least: usize, end: usize) -> Answer
-    ensures { told result ≡ when (eqb lack.place 0) (0 ∷ end ∷ []) (1 ∷ lack.place ∷ lack.need ∷ have ∷ least ∷ []) }
-{
-    if lack.place == 0 {
-        return Answer::Accepted(end);
-    }
-    Answer::Refused(Refusal::Short {
-        place: lack.place,
-        need: lack.need,
-        have,
-        least,
-    })
+    Ok(())
 }
 
 // Refuses a body of `have` bytes at the first part, in wire order, whose end it does not reach. Accepts one that reaches them
-// all, and tells where the last one ends. The parts are asked from the last to the first, so that the first has the last word.
-pub fn missing(have: usize, e: Ends) -> Answer
+// all, and tells where the last one ends.
+pub fn missing(have: usize, e: Ends) -> Result<usize, Refusal>
     ensures { told result ≡ short_told (short_to have e) have (needs_to e) (0 ∷ e.superframe ∷ []) }
 {
-    let lack = Lack { place: 0, need: 0 };
-    let lack = reaching(e.superframe, 9, have, lack);
-    let lack = reaching(e.plan_id, 8, have, lack);
-    let lack = reaching(e.block, 7, have, lack);
-    let lack = reaching(e.bond, 6, have, lack);
-    let lack = reaching(e.first_id, 6, have, lack);
-    let lack = reaching(e.header, 5, have, lack);
-    let lack = reaching(e.timeslice, 4, have, lack);
-    let lack = reaching(e.scrambling, 3, have, lack);
-    let lack = reaching(e.stream, 2, have, lack);
-    let lack = reaching(18, 1, have, lack);
-    answered(lack, have, least_total(have, e), e.superframe)
+    let least = least_total(have, e);
+    reach(1, 18, have, least)?;
+    reach(2, e.stream, have, least)?;
+    reach(3, e.scrambling, have, least)?;
+    reach(4, e.timeslice, have, least)?;
+    reach(5, e.header, have, least)?;
+    reach(6, e.first_id, have, least)?;
+    reach(6, e.bond, have, least)?;
+    reach(7, e.block, have, least)?;
+    reach(8, e.plan_id, have, least)?;
+    reach(9, e.superframe, have, least)?;
+    Ok(e.superframe)
 }

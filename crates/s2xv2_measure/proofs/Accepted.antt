@@ -1,14 +1,14 @@
--- Laws of what is answered once the length is known: a tail counts as at most 65,535 bytes, and is told the same (`capped_same`); the writer refuses for
+-- Laws of what is answered once the length is known: a place that a list gives is not 0 (`placed`, `placed-none`); a tail counts as at most 65,535 bytes, and is told the same (`capped_same`); the writer refuses for
 -- room (`judged-room`), for list B (`judged-field`), or accepts (`judged-written`); a record that list A passes is measured (`ready-length`), and one that
 -- both pass is written (`ready`).
 -- Assumes nothing.
 use mathlib.Core.Path.{◌≡◌, refl, sym, ap, ◌∙◌}
 use mathlib.Core.List.{List, [], ◌∷◌}
 use mathlib.Core.Bool.{Bool, true, false}
-use Prim.Native.Nat.{ℕ, ◌+◌, ◌≤◌, ◌<◌, min}
+use Prim.Native.Nat.{ℕ, zero, suc, ◌+◌, ◌≤◌, ◌<◌, min}
 use native.Mathlib.Omega.{arith}
 use lib.Dec.{ltb}
-use borrow.Author.Tests.{ltb-true, ltb-false}
+use borrow.Author.Tests.{ltb-true, ltb-false, ne_eqb}
 use Rattle.answers.specs.Answer.{saturated}
 use Rattle.s2xv2.specs.Encode.{encoded_length}
 use Rattle.s2xv2.specs.Length.{length_told}
@@ -16,8 +16,19 @@ use Rattle.s2xv2.specs.Write.{write_told}
 use Rattle.s2xv2.specs.ListA.{inconsistency, list_a}
 use Rattle.s2xv2.specs.ListB.{list_b, unwritable}
 use Rattle.s2xv2.specs.declared.record.S2Xv2SatelliteDeliverySystem.{S2Xv2SatelliteDeliverySystem}
+use Rattle.answers.specs.Tests.{place_in}
 use Rattle.answers.proofs.Tests.{Clear, clear_first}
+use Rattle.std.specs.Prelude.{Some, None}
 use Rattle.s2xv2.proofs.Written.{Writable, measured, accepted-length, told-room, told-field, told-written}
+
+-- a place is there where it is not 0
+pub placed : (n p : ℕ) → place_in n ≡ Some p → (p ≡ n) × (0 < n)
+placed zero p e = cc
+placed (suc n) p e = let k = rw (ne_eqb (suc n) 0 (λ d. omega arith)) at e in (cc, omega arith)
+
+pub placed-none : (n : ℕ) → place_in n ≡ None → n ≡ 0
+placed-none zero e = refl
+placed-none (suc n) e = let k = rw (ne_eqb (suc n) 0 (λ d. omega arith)) at e in cc
 
 -- a tail counts as at most 65,535 bytes: its length is told the same
 pub capped_same : (p t : ℕ) → saturated (p + min t 65535) ≡ saturated (p + t)

@@ -1,4 +1,4 @@
--- Laws of sizes: a flag that is a bit counts as many bytes as it says (`count-bit`, `both_bits`), and so does the superframe block (`block_size`);
+-- Laws of sizes: the superframe block counts as many bytes as its flags say (`block_size`);
 -- a record with at most two bonds has at most 44 bytes without its tail (`most`);
 -- the flags of a record made plain are bits (`counted_of`).
 -- Assumes nothing.
@@ -8,7 +8,6 @@ use mathlib.Core.List.{List, [], ◌∷◌, ◌++◌}
 use Prim.Native.Nat.{ℕ, zero, suc, ◌+◌, ◌*◌, ◌<◌, ◌≤◌}
 use native.Mathlib.Omega.{arith}
 use lib.ListN.{get_or}
-use lib.Bits.{bit_and}
 use lib.Dec.{eqb}
 use borrow.Author.Tests.{eqb-true}
 use Rattle.wire.specs.Flags.{and, only}
@@ -16,31 +15,19 @@ use Rattle.wire.specs.Parts.{◌⦂◌, sizes}
 use Rattle.s2xv2.specs.Table144b.{last_byte}
 use Rattle.s2xv2.specs.Encode.{plan_parts, superframe_parts, superframe_end_values, superframe_of, parts_of}
 use Rattle.s2xv2.proofs.Whole.{parts-size}
-use Rattle.answers.proofs.Options.{is-selected}
-use Rattle.s2xv2_plain.proofs.Back.{is-8}
+use Rattle.s2xv2_plain.proofs.Back.{is-there}
 use Rattle.s2xv2_measure.specs.Quick.{Counted, Fits}
 use Rattle.wire.proofs.Flags.{bit-small}
 use Rattle.s2xv2_plain.specs.Output.{block_of, bytes_of}
 use Rattle.s2xv2.specs.declared.record.S2Xv2SatelliteDeliverySystem.{S2Xv2SatelliteDeliverySystem}
-use Rattle.answers.specs.Options.{is_some_bool, is_some8, selected, some32_if}
-use Rattle.answers.specs.declared.option.OptionU32.{OptionU32}
-use Rattle.s2xv2.specs.OptionSuperframe.{some_superframe_if}
 use Rattle.s2xv2.specs.declared.superframe.S2Xv2Superframe.{S2Xv2Superframe}
 use Rattle.s2xv2_plain.specs.Input.{is_set, block_in, meant}
+use Rattle.std.specs.Prelude.{Option, is_some}
+use Rattle.std.specs.Option.{unwrap_or}
+use Rattle.std.specs.Bool.{then_some}
+use Rattle.answers.proofs.Options.{is-selected}
 
-pub count-bit : (b n : ℕ) → b < 2 → only (is_set b) n ≡ b * n
-count-bit zero n h = omega arith
-count-bit (suc zero) n h = omega arith
-count-bit (suc (suc b)) n h = absurd (omega arith)
-
-pub both_bits : (a b : ℕ) → a < 2 → b < 2 → (bit_and a b < 2) × (bit_and a b * 3 ≡ only (and (is_set a) (is_set b)) 3)
-both_bits zero b h k = (omega arith, refl)
-both_bits (suc zero) zero h k = (omega arith, refl)
-both_bits (suc zero) (suc zero) h k = (omega arith, refl)
-both_bits (suc zero) (suc (suc n)) h k = absurd (omega arith)
-both_bits (suc (suc n)) b h k = absurd (omega arith)
-
-block-length : (h : ℕ) (o : OptionU32) (f : S2Xv2Superframe) → h < 2 → 8 + 4 * h ≡ 7 + sizes (plan_parts (is_set h) o ++ (last_byte ⦂ superframe_end_values f ∷ []))
+block-length : (h : ℕ) (o : Option ℕ) (f : S2Xv2Superframe) → h < 2 → 8 + 4 * h ≡ 7 + sizes (plan_parts (is_set h) o ++ (last_byte ⦂ superframe_end_values f ∷ []))
 block-length zero o f k = refl
 block-length (suc zero) o f k = refl
 block-length (suc (suc n)) o f k = absurd (omega arith)
@@ -49,8 +36,8 @@ pub block_size : (ws bs : List ℕ) → get_or bs 3 0 < 2 → only (is_set (get_
 unfolding superframe_parts
 block_size ws bs h = go (is_set (get_or bs 11 0))
   where
-    go : (t : Bool) → only t (8 + 4 * get_or bs 3 0) ≡ sizes (superframe_parts (some_superframe_if t (block_in ws bs)))
-    go true = block-length (get_or bs 3 0) (some32_if (is_set (get_or bs 7 0)) (get_or ws 9 0)) (block_in ws bs) h
+    go : (t : Bool) → only t (8 + 4 * get_or bs 3 0) ≡ sizes (superframe_parts (then_some t (block_in ws bs)))
+    go true = block-length (get_or bs 3 0) (then_some (is_set (get_or bs 7 0)) (get_or ws 9 0)) (block_in ws bs) h
     go false = refl
 
 at_most : (t : Bool) (n : ℕ) → only t n ≤ n
@@ -69,7 +56,7 @@ most ws bs f =
     let p = f.counted.plan in
     omega (
       arith,
-      simp (is-8, is-selected) at (parts-size (meant ws bs)),
+      simp (is-there, is-selected) at (parts-size (meant ws bs)),
       sym (block_size ws bs p),
       at_most (is_set (get_or bs 4 0)) 1,
       at_most (and (is_set (get_or bs 9 0)) (is_set (get_or bs 1 0))) 3,
@@ -80,9 +67,9 @@ most ws bs f =
 
 pub counted_of : (r : S2Xv2SatelliteDeliverySystem) → Counted (bytes_of r)
 counted_of r = record {
-  selector = bit-small (selected r.scrambling_sequence_selector);
+  selector = bit-small (unwrap_or r.scrambling_sequence_selector false);
   plan = bit-small (block_of r.superframe).beam_hopping_time_plan_selector;
-  has_stream = bit-small (is_some8 r.input_stream_identifier);
-  has_selector = bit-small (is_some_bool r.scrambling_sequence_selector);
-  has_timeslice = bit-small (is_some8 r.timeslice_number);
+  has_stream = bit-small (is_some r.input_stream_identifier);
+  has_selector = bit-small (is_some r.scrambling_sequence_selector);
+  has_timeslice = bit-small (is_some r.timeslice_number);
 }

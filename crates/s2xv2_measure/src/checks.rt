@@ -8,8 +8,8 @@ ghost use Rattle.answers.proofs.Tests.{Clear};
 ghost use Rattle.s2xv2.specs.ListA.{list_a};
 ghost use Rattle.s2xv2.specs.ListB.{core_b, superframe_b, list_b};
 ghost use Rattle.s2xv2_plain.specs.Input.{is_set, block_in, meant};
-ghost use Rattle.s2xv2.specs.declared.superframe.OptionSuperframe.TheVariants as OS;
 ghost use Rattle.s2xv2_measure.specs.Quick.{Word, WordAt, Agrees, Fits};
+ghost use Rattle.std.specs.Prelude.{Some};
 
 use s2xv2_lists::list_b::less_one;
 use s2xv2_plain::asked::asked;
@@ -20,7 +20,7 @@ use wire::field::picked;
 fn join(a: u8, b: u8, c: u8, d: u8) -> u32
     ensures { Word a b c d result }
 {
-    (a as u32) + (b as u32) * 256 + (c as u32) * 65536 + (d as u32) * 16777216
+    u32::from_le_bytes([a, b, c, d])
 }
 
 // The four bytes from `i` on as one word.
@@ -105,7 +105,7 @@ fn bonds_fit(bond: u8, count: u8, reserved: u8) -> bool
 // The wire can carry the block.
 fn block_fits(w: &[u32; 10], b: &[u8; 36]) -> bool
     requires { Agrees b.now }
-    ensures { result ≡ true → Clear (superframe_b (OS.Some (block_in w.now b.now))) }
+    ensures { result ≡ true → Clear (superframe_b (Some (block_in w.now b.now))) }
 {
     let nibble = picked(
         b[places::SFFI_SELECTOR],
@@ -133,6 +133,7 @@ fn superframe_fits(w: &[u32; 10], b: &[u8; 36]) -> bool
 }
 
 // Both lists find nothing, and every flag that is counted or packed is 0 or 1.
+#[inline(always)]
 pub(crate) fn fits(w: &[u32; 10], b: &[u8; 36]) -> bool
     ensures lists { result ≡ true → Clear (list_a (meant w.now b.now)) × Clear (list_b (meant w.now b.now)) }
     ensures bits { result ≡ true → Fits b.now }

@@ -51,7 +51,7 @@ fn superframe_len(there: u8, plan: u8) -> usize
 pub(crate) fn tail_len(n: usize) -> usize
     ensures { result ≡ min n 65535 }
 {
-    if 65535 < n { 65535 } else { n }
+    n.min(65535)
 }
 
 // All parts, without the tail, whatever the numbers are.

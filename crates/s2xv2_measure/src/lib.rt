@@ -12,7 +12,7 @@ ghost use Rattle.s2xv2_plain.specs.Input.{meant};
 ghost use Rattle.answers.specs.Plain.{answer_out};
 ghost use Rattle.s2xv2_measure.specs.Quick.{Packed, Fits};
 
-use answers::answer::{Answer, Refusal, saturated};
+use answers::answer::{Refusal, saturated};
 use answers::plain::{PlainAnswer, accepted, answer_out};
 use s2xv2::record::S2Xv2SatelliteDeliverySystem;
 use s2xv2_lists::list_a::inconsistency;
@@ -25,48 +25,49 @@ mod length;
 
 // The number of bytes that the record takes with a tail. Refuses a record that contradicts itself, and one whose encoding would
 // have more than 4,096 bytes; it does not ask whether the wire can carry the record's values.
-pub fn serialized_len(r: S2Xv2SatelliteDeliverySystem, reserved_tail: &[u8]) -> Answer
+pub fn serialized_len(
+    r: S2Xv2SatelliteDeliverySystem,
+    reserved_tail: &[u8],
+) -> Result<usize, Refusal>
     ensures { told result ≡ length_told r reserved_tail.now }
 {
-    let place = inconsistency(r);
-    if place != 0 {
-        return Answer::Refused(Refusal::Inconsistent { place });
+    if let Some(place) = inconsistency(r) {
+        return Err(Refusal::Inconsistent { place });
     }
     let plain = to_plain(r);
     let need = length::parts_len(&plain.bytes) + length::tail_len(reserved_tail.len());
     if 4096 < need {
-        return Answer::Refused(Refusal::Long {
+        return Err(Refusal::Long {
             length: saturated(need),
         });
     }
-    Answer::Accepted(need)
+    Ok(need)
 }
 
 // What the writer answers for the record, its tail and a buffer of `room` bytes. Refuses what `serialized_len` refuses, then a
 // buffer that is too small, then a record whose values the wire cannot carry.
-pub fn write_answer(r: S2Xv2SatelliteDeliverySystem, reserved_tail: &[u8], room: usize) -> Answer
+pub fn write_answer(
+    r: S2Xv2SatelliteDeliverySystem,
+    reserved_tail: &[u8],
+    room: usize,
+) -> Result<usize, Refusal>
     ensures { told result ≡ write_told r reserved_tail.now room }
 {
-    let measured = serialized_len(r, reserved_tail);
-    let Answer::Accepted(need) = measured else {
-        return measured;
-    };
+    let need = serialized_len(r, reserved_tail)?;
     if room < need {
-        return Answer::Refused(Refusal::Room { need, have: room });
+        return Err(Refusal::Room { need, have: room });
     }
-    let wide = unwritable(r);
-    if wide != 0 {
-        return Answer::Refused(Refusal::Field { place: wide });
+    if let Some(place) = unwritable(r) {
+        return Err(Refusal::Field { place });
     }
-    Answer::Accepted(need)
+    Ok(need)
 }
 
 // `serialized_len` of the record that plain numbers mean, the long way.
 fn measured(w: &[u32; 10], b: &[u8; 36], reserved_tail: &[u8]) -> PlainAnswer
     ensures { result ≡ answer_out (length_told (meant w.now b.now) reserved_tail.now) }
 {
-    let answer = serialized_len(of_plain(w, b), reserved_tail);
-    answer_out(answer)
+    answer_out(serialized_len(of_plain(w, b), reserved_tail))
 }
 
 // `serialized_len` of the record that plain numbers mean. One that passes the quick tests, and is not too long, is judged by no other.
@@ -88,22 +89,19 @@ fn has_room(b: &[u8; 36], tail: usize, room: usize) -> bool
     ensures within { result ≡ true → (ws : List ℕ) → sizes (parts_of (meant ws b.now)) + tail ≤ 4096 }
     ensures fits { result ≡ true → (ws : List ℕ) → sizes (parts_of (meant ws b.now)) + tail ≤ room }
 {
-    if tail <= 4052 {
-        if tail + 44 <= room {
-            return true;
-        }
+    if tail <= 4052 && tail + 44 <= room {
+        return true;
     }
     let need = length::parts_len(b) + length::tail_len(tail);
     (need <= 4096) & (need <= room)
 }
 
 // Whether a quick look finds that the writer accepts the record that plain numbers mean; if it does, each flag that is packed into a byte is 0 or 1.
+// Inlined, for speed, as `fits` is.
+#[inline(always)]
 pub fn is_ready(w: &[u32; 10], b: &[u8; 36], reserved_tail: &[u8], room: usize) -> bool
     ensures told { result ≡ true → Writable (meant w.now b.now) reserved_tail.now room }
     ensures bits { result ≡ true → Packed b.now }
 {
-    if checks::fits(w, b) {
-        return has_room(b, reserved_tail.len(), room);
-    }
-    false
+    checks::fits(w, b) && has_room(b, reserved_tail.len(), room)
 }

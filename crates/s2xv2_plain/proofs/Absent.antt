@@ -7,11 +7,8 @@ use mathlib.Core.List.{List, [], ◌∷◌, ◌++◌, map}
 use Prim.Native.Nat.{ℕ}
 use lib.ListN.{get_or}
 use Rattle.wire.specs.Flags.{when, only}
-use Rattle.answers.specs.declared.option.OptionBool.TheVariants as OB
-use Rattle.answers.specs.declared.option.OptionU8.TheVariants as O8
-use Rattle.answers.specs.declared.option.OptionU32.TheVariants as O32
-use Rattle.s2xv2.specs.OptionSuperframe.{some_superframe_if}
 use Rattle.s2xv2_plain.specs.Input.{is_set, block_in, meant}
+use Rattle.std.specs.Bool.{then_some}
 
 -- with the flag of the block beside them
 abbrev numbers_under : Bool → List ℕ → List ℕ → List ℕ
@@ -64,13 +61,13 @@ abbrev pub present_bytes : List ℕ → List ℕ
 present_bytes bs = bytes_under (is_set (get_or bs 11 0)) bs
 
 -- what is taken only where a flag is set is the same whatever stands there where it is clear
-behind : {X Y : Type 0} (f : X → Y) (t : Bool) (v w : X) (none : Y) → when t (f (when t v w)) none ≡ when t (f v) none
-behind f true v w none = refl
-behind f false v w none = refl
+behind : {X Y : Type 0} (f : X → Y) (t : Bool) (v w : X) → then_some t (f (when t v w)) ≡ then_some t (f v)
+behind f true v w = refl
+behind f false v w = refl
 
-block : (ws bs : List ℕ) (t : Bool) → some_superframe_if t (block_in (numbers_under t ws bs) (bytes_under t bs)) ≡ some_superframe_if t (block_in ws bs)
-block ws bs true = simp (behind O8.Some, behind O32.Some)
+block : (ws bs : List ℕ) (t : Bool) → then_some t (block_in (numbers_under t ws bs) (bytes_under t bs)) ≡ then_some t (block_in ws bs)
+block ws bs true = simp (behind (λ (v : ℕ). v))
 block ws bs false = refl
 
 pub absent-ignored : (ws bs : List ℕ) → meant (present_numbers ws bs) (present_bytes bs) ≡ meant ws bs
-absent-ignored ws bs = rw (block ws bs (is_set (get_or bs 11 0))) (simp (behind O8.Some, behind O32.Some, behind (λ (v : ℕ). OB.Some (is_set v))))
+absent-ignored ws bs = rw (block ws bs (is_set (get_or bs 11 0))) (simp (behind (λ (v : ℕ). v), behind is_set))

@@ -11,10 +11,12 @@ use wire::field::bit_of;
 fn word(reserved: u8, row: ModeRow) -> u32
     ensures { result ≡ ((bit row.superframe * 256 + bit row.timeslice) * 256 + bit row.selector) * 256 + reserved }
 {
-    (reserved as u32)
-        + (bit_of(row.selector) as u32) * 256
-        + (bit_of(row.timeslice) as u32) * 65536
-        + (bit_of(row.superframe) as u32) * 16777216
+    u32::from_le_bytes([
+        reserved,
+        bit_of(row.selector),
+        bit_of(row.timeslice),
+        bit_of(row.superframe),
+    ])
 }
 
 // What the mode of a code asks for, as one word: the four bytes of a record from `MODE_IS_RESERVED` on, the first the lowest. The codes that have a name

@@ -2,7 +2,6 @@
 #![tactic(auto)]
 
 pub mod asked;
-mod flags;
 pub mod input;
 pub mod output;
 pub mod places;

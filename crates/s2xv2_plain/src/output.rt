@@ -3,23 +3,30 @@ ghost use Rattle.std.specs.Prelude.{◌≡◌, length, get_or, take, drop};
 ghost use Rattle.wire.specs.Store.{stored_from};
 ghost use Rattle.s2xv2.specs.Default.{default_record};
 ghost use Rattle.s2xv2_plain.specs.Input.{meant};
-ghost use Rattle.s2xv2_plain.specs.Output.{block_of, numbers_of, bytes_of};
+ghost use Rattle.s2xv2_plain.specs.Output.{is_reserved, block_of, numbers_of, bytes_of};
 
-use crate::flags::{has_bool, has_superframe, has_u8, has_u32, is_reserved};
 use crate::places;
 use crate::types::Plain;
+use s2xv2::mode::S2Xv2Mode;
 use s2xv2::record::S2Xv2SatelliteDeliverySystem;
-use s2xv2::superframe::{OptionSuperframe, S2Xv2Superframe};
+use s2xv2::superframe::S2Xv2Superframe;
 use wire::field::bit_of;
 
+// Whether a mode is `Reserved`, as a flag.
+fn is_reserved(mode: S2Xv2Mode) -> u8
+    ensures { result ≡ is_reserved mode }
+{
+    match mode {
+        S2Xv2Mode::Reserved(_) => 1,
+        _ => 0,
+    }
+}
+
 // The block, or the default one where there is none.
-fn block_of(superframe: OptionSuperframe) -> S2Xv2Superframe
+fn block_of(superframe: Option<S2Xv2Superframe>) -> S2Xv2Superframe
     ensures { result ≡ block_of superframe }
 {
-    match superframe {
-        OptionSuperframe::Some(f) => f,
-        OptionSuperframe::None => S2Xv2Superframe::default(),
-    }
+    superframe.unwrap_or_default()
 }
 
 // The first id. Ids are two.
@@ -44,12 +51,12 @@ fn numbers_of(r: S2Xv2SatelliteDeliverySystem) -> [u32; 10]
         r.satellite_id,
         r.symbol_rate,
         r.frequency,
-        index.or_zero(),
+        index.unwrap_or(0),
         first_id(ids),
         ids[1],
         f.reference_scrambling_index,
         f.payload_scrambling_index,
-        plan_id.or_zero(),
+        plan_id.unwrap_or(0),
     ]
 }
 
@@ -67,17 +74,17 @@ fn put_flags(r: S2Xv2SatelliteDeliverySystem, b: &mut [u8; 36])
     let sffi = f.sffi;
     let plan_id = f.beamhopping_time_plan_id;
     b[places::MULTIPLE_INPUT_STREAM_FLAG] = bit_of(r.multiple_input_stream_flag);
-    b[places::SCRAMBLING_SEQUENCE_SELECTOR] = bit_of(selector.is_set());
+    b[places::SCRAMBLING_SEQUENCE_SELECTOR] = bit_of(selector.unwrap_or(false));
     b[places::SFFI_SELECTOR] = bit_of(f.sffi_selector);
     b[places::BEAM_HOPPING_TIME_PLAN_SELECTOR] = bit_of(f.beam_hopping_time_plan_selector);
-    b[places::HAS_INPUT_STREAM_IDENTIFIER] = has_u8(stream);
-    b[places::HAS_SCRAMBLING_SEQUENCE_INDEX] = has_u32(index);
-    b[places::HAS_SFFI] = has_u8(sffi);
-    b[places::HAS_BEAMHOPPING_TIME_PLAN_ID] = has_u32(plan_id);
+    b[places::HAS_INPUT_STREAM_IDENTIFIER] = bit_of(stream.is_some());
+    b[places::HAS_SCRAMBLING_SEQUENCE_INDEX] = bit_of(index.is_some());
+    b[places::HAS_SFFI] = bit_of(sffi.is_some());
+    b[places::HAS_BEAMHOPPING_TIME_PLAN_ID] = bit_of(plan_id.is_some());
     b[places::MODE_IS_RESERVED] = is_reserved(mode);
-    b[places::HAS_SCRAMBLING_SEQUENCE_SELECTOR] = has_bool(selector);
-    b[places::HAS_TIMESLICE_NUMBER] = has_u8(timeslice);
-    b[places::HAS_SUPERFRAME] = has_superframe(superframe);
+    b[places::HAS_SCRAMBLING_SEQUENCE_SELECTOR] = bit_of(selector.is_some());
+    b[places::HAS_TIMESLICE_NUMBER] = bit_of(timeslice.is_some());
+    b[places::HAS_SUPERFRAME] = bit_of(superframe.is_some());
 }
 
 // Stores the bytes of a record that hold a field of the core or of a part behind it.
@@ -99,8 +106,8 @@ fn put_fields(r: S2Xv2SatelliteDeliverySystem, b: &mut [u8; 36])
     b[places::ROLL_OFF] = r.roll_off;
     b[places::NUM_CHANNEL_BONDS] = r.num_channel_bonds;
     b[places::RESERVED_ZERO_FUTURE_USE_7] = r.reserved_zero_future_use_7;
-    b[places::INPUT_STREAM_IDENTIFIER] = stream.or_zero();
-    b[places::TIMESLICE_NUMBER] = timeslice.or_zero();
+    b[places::INPUT_STREAM_IDENTIFIER] = stream.unwrap_or(0);
+    b[places::TIMESLICE_NUMBER] = timeslice.unwrap_or(0);
     b[places::RESERVED_ZERO_FUTURE_USE_6] = r.reserved_zero_future_use_6;
 }
 
@@ -113,7 +120,7 @@ fn put_block(r: S2Xv2SatelliteDeliverySystem, b: &mut [u8; 36])
     let sffi = f.sffi;
     b[places::SOSF_WH_SEQUENCE_NUMBER] = f.sosf_wh_sequence_number;
     b[places::SUPERFRAME_RESERVED_ZERO_FUTURE_USE_2] = f.reserved_zero_future_use_2;
-    b[places::SFFI] = sffi.or_zero();
+    b[places::SFFI] = sffi.unwrap_or(0);
     b[places::RESERVED_ZERO_FUTURE_USE_4] = f.reserved_zero_future_use_4;
     b[places::SUPERFRAME_PILOTS_WH_SEQUENCE_NUMBER] = f.superframe_pilots_wh_sequence_number;
     b[places::POSTAMBLE_PLI] = f.postamble_pli;

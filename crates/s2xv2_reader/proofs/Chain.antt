@@ -1,17 +1,17 @@
 -- The parts behind the core, one after the other. None of them but the superframe block, which is the last, stores below byte 22 (`keeps`, `keeps-two`), so
--- what is known at the core (`at-core`) is known `Behind` each part whose end is reached (`ends_at`, `passes`), and a body stops where it is not (`stops`).
+-- what is known at the core (`at-core`) is known `Behind` each part whose end is reached (`ends_at`, `passes`).
 -- What all parts store is what is asked of them: the numbers (`chain-numbers`) and the bytes (`chain-bytes`).
 -- Assumes nothing.
-use Rattle.std.specs.Prelude.{◌≡◌, ℕ, ◌+◌, ◌<◌, ◌≤◌, List, length, get_or, set}
+use Rattle.std.specs.Prelude.{◌≡◌, ℕ, ◌+◌, ◌<◌, ◌≤◌, List, length, get_or, set, Some}
 use mathlib.Core.Path.{refl, ap, ◌∙◌}
 use native.Mathlib.Omega.{arith}
 use lib.ListN.{length-set}
 use lib.Seq.{get_or-set_other}
 use Rattle.wire.specs.Flags.{is_one, only}
-use Rattle.answers.specs.Options.{or_zero8, or_zero32}
 use Rattle.s2xv2.specs.Read.{stream_end, scrambling_end, timeslice_end, bond_end, stream_id_at, reserved6_at, index_at, timeslice_at}
 use Rattle.s2xv2_reader.specs.Stored.{reach, bond_numbers, bond_bytes, block_numbers, block_bytes, block_at, named, rest_numbers, rest_bytes}
-use Rattle.s2xv2_reader.proofs.Ends.{reached, missed, most}
+use Rattle.s2xv2_reader.proofs.Ends.{reached}
+use Rattle.std.specs.Option.{unwrap_or}
 
 -- ---- what stays
 
@@ -32,56 +32,45 @@ keeps-two bs after i v j u d g h =
     let two = keeps (set bs i v) after j u d h in
     record { many = two.many ∙ one.many; same = λ k l. two.same k l ∙ one.same k l }
 
--- the bytes after a part, by what is said of them
-abbrev pub left_by : {bs stores : List ℕ} → bs ≡ stores → List ℕ
-left_by {bs} e = bs
-
 -- ---- from part to part
 
 -- p is where the next part starts, and the bytes that say what is there are those of the core
-pub record Behind (s core bs : List ℕ) (p end limit : ℕ) : Type 0 where
+pub record Behind (s core bs : List ℕ) (p end : ℕ) : Type 0 where
   pub at : p ≡ end
   pub low : 18 ≤ p
   pub within : p ≤ length s
-  pub small : p ≤ limit
   pub full : length bs ≡ 36
   pub kept : (j : ℕ) → j < 22 → get_or bs j 0 ≡ get_or core j 0
 
-pub at-core : (s core : List ℕ) → 18 ≤ length s → length core ≡ 36 → Behind s core core 18 18 18
-at-core s core h g = record { at = refl; low = omega arith; within = h; small = omega arith; full = g; kept = λ j _. refl }
+pub at-core : (s core : List ℕ) → 18 ≤ length s → length core ≡ 36 → Behind s core core 18 18
+at-core s core h g = record { at = refl; low = omega arith; within = h; full = g; kept = λ j _. refl }
 
 -- a part that byte j says is there, of a size that may depend on where it starts
-module _ {s core bs : List ℕ} {p end limit : ℕ} (x : Behind s core bs p end limit) (j : ℕ) (h : j < 22) (size : ℕ → ℕ) {q : ℕ}
-    (d : q ≡ reach (length s) (p + only (is_one (get_or bs j 0)) (size p))) where
+module _ {s core bs : List ℕ} {p end : ℕ} (x : Behind s core bs p end) (j : ℕ) (h : j < 22) (size : ℕ → ℕ) where
   pub ends_at : p + only (is_one (get_or bs j 0)) (size p) ≡ end + only (is_one (get_or core j 0)) (size end)
   ends_at = ap (λ (v : ℕ). p + only (is_one v) (size p)) (x.kept j h) ∙ ap (λ (y : ℕ). y + only (is_one (get_or core j 0)) (size y)) x.at
 
-  pub passes : (m : ℕ) (after : List ℕ) → ((y : ℕ) → size y ≤ m) → (q ≡ 0 → ⊥) → Keeps bs after
-      → Behind s core after q (end + only (is_one (get_or core j 0)) (size end)) (limit + m)
-  passes m after g z k =
-      let l = most (is_one (get_or bs j 0)) (size p) in
-      let r = reached (length s) (p + only (is_one (get_or bs j 0)) (size p)) q d z in
+  pub passes : (q : ℕ) (after : List ℕ) → Some q ≡ reach (length s) (p + only (is_one (get_or bs j 0)) (size p)) → Keeps bs after
+      → Behind s core after q (end + only (is_one (get_or core j 0)) (size end))
+  passes q after d k =
+      let r = reached (length s) (p + only (is_one (get_or bs j 0)) (size p)) q d in
       record {
         at = r.0 ∙ ends_at;
         low = omega (arith, r.0, x.low);
         within = omega (arith, r.0, r.1);
-        small = omega (arith, r.0, l, g p, x.small);
         full = k.many ∙ x.full;
         kept = λ i l. k.same i l ∙ x.kept i l;
       }
 
-  pub stops : q ≡ 0 → length s < end + only (is_one (get_or core j 0)) (size end)
-  stops z = rw (← ends_at) (missed _ _ q d z (omega (arith, x.low)))
-
 -- ---- what is stored
 
-module _ {s core b1 b2 b3 b4 : List ℕ} {p1 p2 p3 p4 m1 m2 m3 m4 : ℕ}
-    (x1 : Behind s core b1 p1 (stream_end (named core)) m1)
-    (x2 : Behind s core b2 p2 (scrambling_end (named core)) m2)
-    (x3 : Behind s core b3 p3 (timeslice_end (named core)) m3)
-    (x4 : Behind s core b4 p4 (bond_end s (named core)) m4) where
+module _ {s core b1 b2 b3 b4 : List ℕ} {p1 p2 p3 p4 : ℕ}
+    (x1 : Behind s core b1 p1 (stream_end (named core)))
+    (x2 : Behind s core b2 p2 (scrambling_end (named core)))
+    (x3 : Behind s core b3 p3 (timeslice_end (named core)))
+    (x4 : Behind s core b4 p4 (bond_end s (named core))) where
   pub chain-numbers : (w0 w1 w2 w3 : List ℕ)
-      → w1 ≡ set w0 4 (or_zero32 (index_at s p1 (is_one (get_or b1 5 0))))
+      → w1 ≡ set w0 4 (unwrap_or (index_at s p1 (is_one (get_or b1 5 0))) 0)
       → w2 ≡ bond_numbers w1 s p3 (is_one (get_or b3 15 0))
       → w3 ≡ block_numbers w2 (block_at s p4 (is_one (get_or b4 11 0)))
       → w3 ≡ rest_numbers w0 s (named core)
@@ -89,9 +78,9 @@ module _ {s core b1 b2 b3 b4 : List ℕ} {p1 p2 p3 p4 m1 m2 m3 m4 : ℕ}
       rw (d3, x4.kept 11 (omega arith), x4.at, d2, x3.kept 15 (omega arith), x3.at, d1, x1.kept 5 (omega arith), x1.at)
 
   pub chain-bytes : (b5 : List ℕ)
-      → b1 ≡ set core 24 (or_zero8 (stream_id_at s 18 (is_one (get_or core 4 0))))
+      → b1 ≡ set core 24 (unwrap_or (stream_id_at s 18 (is_one (get_or core 4 0))) 0)
       → b2 ≡ set b1 26 (reserved6_at s p1 (is_one (get_or b1 5 0)))
-      → b3 ≡ set b2 25 (or_zero8 (timeslice_at s p2 (is_one (get_or b2 10 0))))
+      → b3 ≡ set b2 25 (unwrap_or (timeslice_at s p2 (is_one (get_or b2 10 0))) 0)
       → b4 ≡ bond_bytes b3 s p3 (is_one (get_or b3 15 0))
       → b5 ≡ block_bytes b4 (block_at s p4 (is_one (get_or b4 11 0)))
       → b5 ≡ rest_bytes core s (named core)

@@ -1,19 +1,19 @@
 -- The core of a body and the parts behind it fill both arrays, so that what was there before does not matter, and what is there then is the record's: where it
 -- ends (`whole-end`), its numbers (`whole_numbers`) and its bytes (`whole-bytes`), of what each call stored.
 -- Assumes nothing.
-use Rattle.std.specs.Prelude.{◌≡◌, ℕ, ◌/◌, ◌%◌, Bool, true, false, List, length, get_or}
+use Rattle.std.specs.Prelude.{◌≡◌, ℕ, ◌/◌, ◌%◌, Bool, true, false, List, length, get_or, Option}
 use mathlib.Core.Path.{refl, ap, subst, ◌∙◌}
 use native.Mathlib.Nat.{div-one}
 use Rattle.wire.specs.Flags.{bit, is_one, when, and}
 use Rattle.wire.proofs.Flags.{is-bit}
 use Rattle.s2xv2.specs.Read.{Present, present_in, superframe_end, body_size, record_at, record_in}
-use Rattle.answers.proofs.Options.{is-selected}
 use Rattle.s2xv2.proofs.Modes.{code-mode}
-use Rattle.s2xv2_plain.proofs.Back.{is-bool, is-8, is_32, is-superframe}
+use Rattle.s2xv2_plain.proofs.Back.{is-there}
 use Rattle.s2xv2_plain.specs.Output.{numbers_of, bytes_of}
 use Rattle.s2xv2_reader.specs.Stored.{reach, core_numbers, field_bytes, asked_bytes, named, rest_numbers, rest_bytes}
 use Rattle.s2xv2_reader.proofs.Spread.{spread}
 use Rattle.s2xv2_reader.proofs.Block.{bit-mod}
+use Rattle.answers.proofs.Options.{is-selected}
 
 -- a bit that stands only where a flag is set, as a flag and as a bit
 flag-when : (h : Bool) (x : ℕ) → is_one (when h x 0) ≡ and h (is_one x)
@@ -41,7 +41,7 @@ all-bytes : (bs s : List ℕ) → length bs ≡ 36 → rest_bytes (core_bytes bs
 unfolding record_at present_in
 all-bytes bs s e =
     subst (λ (l : List ℕ). rest_bytes (core_bytes l s) s (present_in s) ≡ bytes_of (record_in s)) (spread 36 bs e)
-    (simp (div-one, code-mode, is-bool, is-8, is_32, is-superframe, is-selected, bit-mod, bit-when))
+    (simp (div-one, code-mode, is-there, is-selected, bit-mod, bit-when))
 
 -- the bytes before the core is stored, with its fields, and with what is asked for
 module _ (s b0 b1 b2 : List ℕ) (h : length b0 ≡ 36)
@@ -53,7 +53,7 @@ module _ (s b0 b1 b2 : List ℕ) (h : length b0 ≡ 36)
   named-is : named b2 ≡ present_in s
   named-is = ap named core_is ∙ named-core b0 s h
 
-  pub whole-end : (q : ℕ) → q ≡ reach (length s) (superframe_end s (named b2)) → q ≡ reach (length s) (body_size s)
+  pub whole-end : (q : Option ℕ) → q ≡ reach (length s) (superframe_end s (named b2)) → q ≡ reach (length s) (body_size s)
   unfolding body_size
   whole-end q d = d ∙ ap (λ (k : Present). reach (length s) (superframe_end s k)) named-is
 

@@ -1,7 +1,6 @@
 -- What each part of a body stores into the two arrays of a lent record, in the order of the stores. The places are those of `numbers_of` and `bytes_of`, which
 -- the contract of `read_into` proves. Assumes nothing.
--- `reach`          where a part ends, or 0 where the body does not reach that
--- `Stored`         what an array then holds, unless that is 0
+-- `reach`          where a part ends, or none where the body does not reach that
 -- `core_numbers`   the numbers of the core
 -- `field_bytes`    the bytes of the core's fields that mean the same in every mode
 -- `asked_bytes`    those that say what is there, and the top bit of byte 6
@@ -16,25 +15,21 @@
 -- `named`          the parts that the stored bytes of a core say are there
 -- `rest_numbers`   the numbers of all parts behind the core
 -- `rest_bytes`     their bytes
-use Rattle.std.specs.Prelude.{◌≡◌, ℕ, ◌/◌, ◌%◌, Bool, List, set, ◌≢◌, nat_lt, slice_index, slice_set}
+use Rattle.std.specs.Prelude.{ℕ, ◌/◌, ◌%◌, Bool, List, set, nat_lt, slice_index, slice_set, Option, Some, None, is_some}
 use Rattle.wire.specs.Bits.{bits}
 use Rattle.wire.specs.Flags.{bit, is_one, when}
 use Rattle.wire.specs.Widths.{give}
-use Rattle.answers.specs.Options.{is_some8, is_some32, or_zero8, or_zero32}
 use Rattle.s2xv2.specs.Table144b as T
 use Rattle.s2xv2.specs.Table144c.{mode_of, has_selector, has_timeslice, has_superframe}
-use Rattle.s2xv2.specs.OptionSuperframe.{some_superframe_if}
 use Rattle.s2xv2.specs.Read.{Present, stream_end, scrambling_end, timeslice_end, bond_end, has_second, has_plan}
 use Rattle.s2xv2.specs.Read.{stream_id_at, reserved6_at, index_at, timeslice_at, reserved7_at, count_if, first_id_at, second_id_at, superframe_at}
-use Rattle.s2xv2.specs.declared.superframe.OptionSuperframe.{OptionSuperframe}
+use Rattle.s2xv2.specs.declared.superframe.S2Xv2Superframe.{S2Xv2Superframe}
 use Rattle.s2xv2_plain.specs.Output.{is_reserved, block_of}
+use Rattle.std.specs.Option.{unwrap_or}
+use Rattle.std.specs.Bool.{then_some}
 
-abbrev pub reach : ℕ → ℕ → ℕ
-reach have end = when (nat_lt have end) 0 end
-
--- nothing is said of an array where the body does not reach the end
-abbrev pub Stored : ℕ → List ℕ → List ℕ → Type 0
-Stored end after stores = (end ≢ 0) → after ≡ stores
+abbrev pub reach : ℕ → ℕ → Option ℕ
+reach have end = when (nat_lt have end) None (Some end)
 
 -- ---- the core
 
@@ -100,23 +95,23 @@ start_bytes bs vs =
 abbrev pub end_bytes : List ℕ → ℕ → List ℕ
 end_bytes bs v = slice_set (slice_set (slice_set (slice_set (slice_set bs 31 (v / 8 % 32)) 32 (v % 8)) 33 0) 34 0) 35 0
 
-abbrev pub block_numbers : List ℕ → OptionSuperframe → List ℕ
+abbrev pub block_numbers : List ℕ → Option S2Xv2Superframe → List ℕ
 block_numbers ws f =
     set (set (set ws
     7 (block_of f).reference_scrambling_index)
     8 (block_of f).payload_scrambling_index)
-    9 (or_zero32 (block_of f).beamhopping_time_plan_id)
+    9 (unwrap_or (block_of f).beamhopping_time_plan_id 0)
 
-abbrev pub block_bytes : List ℕ → OptionSuperframe → List ℕ
+abbrev pub block_bytes : List ℕ → Option S2Xv2Superframe → List ℕ
 block_bytes bs f =
     set (set (set (set (set (set (set (set (set (set (set (set (set bs
     27 (block_of f).sosf_wh_sequence_number)
     28 (block_of f).reserved_zero_future_use_2)
     2 (bit (block_of f).sffi_selector))
     3 (bit (block_of f).beam_hopping_time_plan_selector))
-    6 (bit (is_some8 (block_of f).sffi)))
-    7 (bit (is_some32 (block_of f).beamhopping_time_plan_id)))
-    29 (or_zero8 (block_of f).sffi))
+    6 (bit (is_some (block_of f).sffi)))
+    7 (bit (is_some (block_of f).beamhopping_time_plan_id)))
+    29 (unwrap_or (block_of f).sffi 0))
     30 (block_of f).reserved_zero_future_use_4)
     31 (block_of f).superframe_pilots_wh_sequence_number)
     32 (block_of f).postamble_pli)
@@ -124,8 +119,8 @@ block_bytes bs f =
     34 0)
     35 0
 
-abbrev pub block_at : List ℕ → ℕ → Bool → OptionSuperframe
-block_at s p there = some_superframe_if there (superframe_at s p (has_plan s p))
+abbrev pub block_at : List ℕ → ℕ → Bool → Option S2Xv2Superframe
+block_at s p there = then_some there (superframe_at s p (has_plan s p))
 
 -- ---- all parts behind the core
 
@@ -141,13 +136,13 @@ named bs = record {
 abbrev pub rest_numbers : List ℕ → List ℕ → Present → List ℕ
 rest_numbers ws s k =
     block_numbers (bond_numbers (set ws
-    4 (or_zero32 (index_at s (stream_end k) k.scrambling))) s (timeslice_end k) k.bond)
+    4 (unwrap_or (index_at s (stream_end k) k.scrambling) 0)) s (timeslice_end k) k.bond)
     (block_at s (bond_end s k) k.superframe)
 
 abbrev pub rest_bytes : List ℕ → List ℕ → Present → List ℕ
 rest_bytes bs s k =
     block_bytes (bond_bytes (set (set (set bs
-    24 (or_zero8 (stream_id_at s 18 k.stream)))
+    24 (unwrap_or (stream_id_at s 18 k.stream) 0))
     26 (reserved6_at s (stream_end k) k.scrambling))
-    25 (or_zero8 (timeslice_at s (scrambling_end k) k.timeslice))) s (timeslice_end k) k.bond)
+    25 (unwrap_or (timeslice_at s (scrambling_end k) k.timeslice) 0)) s (timeslice_end k) k.bond)
     (block_at s (bond_end s k) k.superframe)

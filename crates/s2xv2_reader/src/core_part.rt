@@ -8,8 +8,8 @@ use s2xv2_plain::places;
 use wire::field::picked;
 
 // The numbers of the core.
-pub(crate) fn put_numbers(s: &[u8], w: &mut [u32])
-    requires { (18 ≤ length s.now) × (length w.old ≡ 10) }
+pub(crate) fn put_numbers(s: &[u8], w: &mut [u32; 10])
+    requires { 18 ≤ length s.now }
     ensures { w.new ≡ core_numbers w.old s.now }
 {
     w[places::DELIVERY_SYSTEM_ID] = be32(s, 0);
@@ -19,8 +19,7 @@ pub(crate) fn put_numbers(s: &[u8], w: &mut [u32])
 }
 
 // The fields of bytes 4, 5 and 6 that mean the same in every mode.
-pub(crate) fn put_fields(v4: u8, v5: u8, v6: u8, b: &mut [u8])
-    requires { length b.old ≡ 36 }
+pub(crate) fn put_fields(v4: u8, v5: u8, v6: u8, b: &mut [u8; 36])
     ensures { b.new ≡ field_bytes b.old v4 v5 v6 }
 {
     b[places::RESERVED_ZERO_FUTURE_USE_2] = v5 / 64 % 4;
@@ -35,18 +34,17 @@ pub(crate) fn put_fields(v4: u8, v5: u8, v6: u8, b: &mut [u8])
 }
 
 // What is there, what the mode of the code `m` asks for, and the top bit of byte 6, which is the selector or reserved.
-pub(crate) fn put_asked(m: u8, v4: u8, v6: u8, b: &mut [u8])
-    requires { length b.old ≡ 36 }
+pub(crate) fn put_asked(m: u8, v4: u8, v6: u8, b: &mut [u8; 36])
     ensures { b.new ≡ asked_bytes b.old m v4 v6 }
 {
-    let asked = asked(m);
-    let selector = (asked / 256 % 256) as u8;
+    let asked = asked(m).to_le_bytes();
+    let selector = asked[1];
     let top = v6 / 128 % 2;
     b[places::MULTIPLE_INPUT_STREAM_FLAG] = v4 / 8 % 2;
     b[places::HAS_INPUT_STREAM_IDENTIFIER] = v4 / 8 % 2;
-    b[places::MODE_IS_RESERVED] = (asked % 256) as u8;
-    b[places::HAS_TIMESLICE_NUMBER] = (asked / 65536 % 256) as u8;
-    b[places::HAS_SUPERFRAME] = (asked / 16777216 % 256) as u8;
+    b[places::MODE_IS_RESERVED] = asked[0];
+    b[places::HAS_TIMESLICE_NUMBER] = asked[2];
+    b[places::HAS_SUPERFRAME] = asked[3];
     b[places::HAS_SCRAMBLING_SEQUENCE_SELECTOR] = selector;
     b[places::RESERVED_ZERO_FUTURE_USE_1] = picked(selector, 0, top);
     b[places::SCRAMBLING_SEQUENCE_SELECTOR] = picked(selector, top, 0);

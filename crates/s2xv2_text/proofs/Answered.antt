@@ -5,33 +5,31 @@ use mathlib.Core.Path.{sym, ◌∙◌, ap}
 use lib.ListN.{length-drop}
 use Rattle.answers.proofs.Answers.{refused-number}
 use Rattle.s2xv2.proofs.Reach.{accepted-tail}
-use Rattle.answers.specs.Answer.{numbers, told}
+use Rattle.answers.specs.Answer.{numbers}
 use Rattle.s2xv2.specs.Read.{Reading, read_told, read_of, tail_of}
 use Rattle.answers.specs.declared.answer.Refusal.{Refusal}
-use Rattle.answers.specs.declared.answer.Answer.TheVariants as A
 use Rattle.s2xv2_reader.specs.Seen.{seen}
 use Rattle.s2xv2_reader.specs.declared.Parsed.{Parsed}
 use Rattle.lines.specs.Line.{refused_of}
 use Rattle.s2xv2_text.specs.Dump.{body_of, dump_of}
+use Rattle.std.specs.Prelude.{Result, Ok, Err}
 
-module _ (s : List ℕ) (r : Parsed) (e : seen r ≡ read_of s) where
-  told_is : told r.answer ≡ read_told s
-  told_is = ap (λ (x : Reading). x.told) e
-
+module _ (s : List ℕ) (r : Result Parsed Refusal) (e : seen r ≡ read_of s) where
   -- where the tail starts is within the body
-  pub tail_within : (at : ℕ) → r.answer ≡ A.Accepted at → at ≤ length s
-  tail_within at h = (accepted-tail s at (sym (ap told h) ∙ told_is)).1
+  pub tail_within : (p : Parsed) → r ≡ Ok p → p.tail_start ≤ length s
+  tail_within p h = (accepted-tail s p.tail_start (ap (λ (x : Reading). x.told) (ap seen (sym h) ∙ e))).1
 
-  pub accepted-text : (at : ℕ) → r.answer ≡ A.Accepted at → body_of (length s) r.body (length s - at) ≡ dump_of s
+  pub accepted-text : (p : Parsed) → r ≡ Ok p → body_of (length s) p.body (length s - p.tail_start) ≡ dump_of s
   unfolding dump_of
-  accepted-text at h =
-      let t : read_told s ≡ 0 ∷ at ∷ [] = sym told_is ∙ ap told h in
-      let b : r.body ≡ (read_of s).body = ap (λ (x : Reading). x.body) e in
-      let l : length s - at ≡ length (tail_of s) = sym (ap length (accepted-tail s at (sym t)).2 ∙ length-drop at s) in
+  accepted-text p h =
+      let q : seen (Ok p) ≡ read_of s = ap seen (sym h) ∙ e in
+      let t : read_told s ≡ 0 ∷ p.tail_start ∷ [] = sym (ap (λ (x : Reading). x.told) q) in
+      let b : p.body ≡ (read_of s).body = ap (λ (x : Reading). x.body) q in
+      let l : length s - p.tail_start ≡ length (tail_of s) = sym (ap length (accepted-tail s p.tail_start (sym t)).2 ∙ length-drop p.tail_start s) in
       rw (b, l, t)
 
-  pub refused-text : (why : Refusal) → r.answer ≡ A.Refused why → refused_of (numbers why) ≡ dump_of s
+  pub refused-text : (why : Refusal) → r ≡ Err why → refused_of (numbers why) ≡ dump_of s
   unfolding dump_of
   refused-text why h =
-      let t : read_told s ≡ numbers why = sym told_is ∙ ap told h in
+      let t : read_told s ≡ numbers why = sym (ap (λ (x : Reading). x.told) (ap seen (sym h) ∙ e)) in
       rw (t, refused-number why)

@@ -9,11 +9,11 @@ use Rattle.wire.specs.Flags.{when}
 use Rattle.s2xv2.specs.Read.{read_told, read_of, tail_of}
 use Rattle.answers.specs.Answer.{numbers, told, number_of}
 use Rattle.answers.specs.declared.answer.Refusal.TheVariants as R
-use Rattle.answers.specs.declared.answer.Answer.TheVariants as A
 use Rattle.s2xv2.specs.declared.record.S2Xv2SatelliteDeliverySystem.{S2Xv2SatelliteDeliverySystem}
 use Rattle.lines.specs.Out.{joined}
 use Rattle.lines.specs.Line.{codes, line_of, refused_of}
 use Rattle.s2xv2_fields.specs.Fields.{core_text, parts_text, superframe_text}
+use Rattle.std.specs.Prelude.{Ok}
 
 unfoldable pub body_of : ℕ → S2Xv2SatelliteDeliverySystem → ℕ → List ℕ
 body_of length r tail =
@@ -29,7 +29,7 @@ abbrev pub room : ℕ
 room = 2048
 
 unfoldable pub dump_told : List ℕ → List ℕ → List ℕ
-dump_told s out = when (nat_lt (length out) room) (numbers (R.Room room (length out))) (told (A.Accepted (length (dump_of s))))
+dump_told s out = when (nat_lt (length out) room) (numbers (R.Room room (length out))) (told (Ok (length (dump_of s))))
 
 -- the text at the start, and all that follows as it was; of a buffer without the room nothing is changed
 unfoldable pub dumped_into : List ℕ → List ℕ → List ℕ

@@ -6,19 +6,19 @@ ghost use Rattle.std.specs.Prelude.{◌≡◌};
 ghost use Rattle.answers.specs.Answer.{told};
 ghost use Rattle.s2xv2_text.specs.Dump.{dump_told, dumped_into};
 
-use answers::answer::{Answer, Refusal};
+use answers::answer::Refusal;
 
 mod body;
 
 // Puts the text of the body `sel` at the start of `out` and answers its length. Refuses a buffer of less than 2,048 bytes, which hold any
 // text, and leaves it as it was.
-pub fn dump(sel: &[u8], out: &mut [u8]) -> Answer
+pub fn dump(sel: &[u8], out: &mut [u8]) -> Result<usize, Refusal>
     ensures answer { told result ≡ dump_told sel.now out.old }
     ensures text { out.new ≡ dumped_into sel.now out.old }
 {
     let have = out.len();
     if have < 2048 {
-        return Answer::Refused(Refusal::Room { need: 2048, have });
+        return Err(Refusal::Room { need: 2048, have });
     }
-    Answer::Accepted(body::text_of(sel, out))
+    Ok(body::text_of(sel, out))
 }

@@ -7,20 +7,19 @@ use native.Mathlib.Omega.{arith}
 use borrow.Author.Tests.{ne_eqb}
 use Rattle.wire.specs.Flags.{when, bit, and, not}
 use Rattle.wire.proofs.Flags.{never, bit-small}
-use Rattle.answers.specs.Options.{is_some_bool, selected, some8_if, some32_if, some_bool_if}
 use Rattle.wire.specs.Widths.{wide}
 use Rattle.wire.proofs.Wide.{narrow}
 use Rattle.s2xv2.specs.Table144c.{mode_of, code_of}
-use Rattle.s2xv2.specs.Encode.{top_bit, scrambling_parts, nibble_of, plan_parts}
+use Rattle.s2xv2.specs.Encode.{top_bit, scrambling_parts, plan_parts}
 use Rattle.s2xv2.specs.declared.mode.S2Xv2Mode.TheVariants as M
 use Rattle.s2xv2.proofs.Modes.{code-mode}
-use Rattle.answers.specs.declared.option.OptionU32.TheVariants as O32
-use Rattle.answers.specs.declared.option.OptionBool.{OptionBool}
-use Rattle.answers.specs.declared.option.OptionBool.TheVariants as OB
 use Rattle.s2xv2.specs.declared.record.S2Xv2SatelliteDeliverySystem.{S2Xv2SatelliteDeliverySystem}
 use Rattle.s2xv2_plain.specs.Input.{is_set, mode_in}
 use Rattle.s2xv2_plain.specs.Output.{block_of, bytes_of}
 use Rattle.s2xv2_measure.specs.Quick.{Packed}
+use Rattle.std.specs.Prelude.{None, Option, Some, is_some}
+use Rattle.std.specs.Option.{unwrap_or}
+use Rattle.std.specs.Bool.{then_some}
 
 -- ---- flags, and the code of a mode
 
@@ -30,7 +29,7 @@ bit-set (suc zero) h = refl
 bit-set (suc (suc n)) h = absurd (omega arith)
 
 -- a selector that is there wherever it is set is read off alone
-pub selected-set : (has v : ℕ) → v ≤ has → selected (some_bool_if (is_set has) (is_set v)) ≡ is_set v
+pub selected-set : (has v : ℕ) → v ≤ has → unwrap_or (then_some (is_set has) (is_set v)) false ≡ is_set v
 selected-set zero zero h = refl
 selected-set zero (suc v) h = absurd (omega arith)
 selected-set (suc has) v h = rw (ne_eqb (suc has) 0 (λ e. omega arith)) refl
@@ -44,43 +43,38 @@ code_in reserved code = go (is_set reserved)
 
 -- ---- a value that is there where it is asked for is the value itself
 
-pub there-scrambling : (s t : Bool) (r v : ℕ) → and s (not t) ≡ false → scrambling_parts s r (some32_if t v) ≡ scrambling_parts s r (O32.Some v)
+pub there-scrambling : (s t : Bool) (r v : ℕ) → and s (not t) ≡ false → scrambling_parts s r (then_some t v) ≡ scrambling_parts s r (Some v)
 unfolding scrambling_parts
 there-scrambling true true r v e = refl
 there-scrambling true false r v e = never (sym e)
 there-scrambling false t r v e = refl
 
-pub there-plan : (s t : Bool) (v : ℕ) → and s (not t) ≡ false → plan_parts s (some32_if t v) ≡ plan_parts s (O32.Some v)
+pub there-plan : (s t : Bool) (v : ℕ) → and s (not t) ≡ false → plan_parts s (then_some t v) ≡ plan_parts s (Some v)
 there-plan true true v e = refl
 there-plan true false v e = never (sym e)
 there-plan false t v e = refl
 
-pub there-nibble : (s t : Bool) (v r : ℕ) → and s (not t) ≡ false → nibble_of s (some8_if t v) r ≡ when s v r
-there-nibble true true v r e = refl
-there-nibble true false v r e = never (sym e)
-there-nibble false t v r e = refl
-
 -- ---- the top bit of byte 6
 
-pub top-is : (t : Bool) (s v : ℕ) → s < 2 → top_bit (some_bool_if t (is_set s)) v ≡ when t s v
+pub top-is : (t : Bool) (s v : ℕ) → s < 2 → top_bit (then_some t (is_set s)) v ≡ when t s v
 top-is true s v h = bit-set s h
 top-is false s v h = refl
 
-pub top_small : (t : Bool) (s v : ℕ) → s < 2 → and (not (is_some_bool (some_bool_if t (is_set s)))) (wide 1 v) ≡ false → when t s v < 2
+pub top_small : (t : Bool) (s v : ℕ) → s < 2 → and (not (is_some (then_some t (is_set s)))) (wide 1 v) ≡ false → when t s v < 2
 top_small true s v h e = h
 top_small false s v h e = narrow 1 v e
 
 -- ---- a record as plain numbers
 
-selected-there : (o : OptionBool) → bit (selected o) ≤ bit (is_some_bool o)
-selected-there (OB.Some true) = omega arith
-selected-there (OB.Some false) = omega arith
-selected-there OB.None = omega arith
+selected-there : (o : Option Bool) → bit (unwrap_or o false) ≤ bit (is_some o)
+selected-there (Some true) = omega arith
+selected-there (Some false) = omega arith
+selected-there None = omega arith
 
 pub packed-out : (r : S2Xv2SatelliteDeliverySystem) → Packed (bytes_of r)
 packed-out r = record {
   stream = bit-small r.multiple_input_stream_flag;
-  selector = bit-small (selected r.scrambling_sequence_selector);
+  selector = bit-small (unwrap_or r.scrambling_sequence_selector false);
   sffi = bit-small (block_of r.superframe).sffi_selector;
   plan = bit-small (block_of r.superframe).beam_hopping_time_plan_selector;
   reference = bit-small r.ncr_reference;

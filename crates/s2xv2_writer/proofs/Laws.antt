@@ -1,4 +1,4 @@
--- Laws of the bonds that list B passes, of the parts one after the other, and of parts of plain numbers.
+-- Laws of the bonds that list B passes, of a part of a list as a run of stores, of the parts one after the other, and of parts of plain numbers.
 -- Assumes nothing.
 use mathlib.Core.Path.{◌≡◌, refl, sym, ap, ◌∙◌}
 use mathlib.Core.List.{List, [], ◌∷◌, ◌++◌, append_assoc}
@@ -6,28 +6,30 @@ use mathlib.Core.Bool.{Bool, true, false}
 use Prim.Native.Nat.{ℕ, zero, suc, ◌+◌, ◌≤◌, ◌<◌}
 use native.Mathlib.Nat.{add-zero}
 use native.Mathlib.Omega.{arith}
-use lib.ListN.{length, get_or}
+use lib.ListN.{length, get_or, set, take, drop}
+use lib.Seq.{sets, sets-eq}
+use native.Mathlib.Numerals.{add-one}
 use Rattle.wire.specs.Parts.{Part, ◌⦂◌, bytes_of, sizes}
 use Rattle.wire.specs.Store.{stored_from}
 use Rattle.wire.proofs.Parts.{Whole, whole_append, bytes_of-append, bytes_of-tail, length-bytes_of, sizes-append}
 use Rattle.wire.proofs.Stores.{run}
 use Rattle.s2xv2.specs.Table144b as T
-use Rattle.answers.specs.Options.{selected, or_zero32, some_bool_if, some8_if, some32_if}
 use Rattle.wire.specs.Widths.{wide}
 use Rattle.s2xv2.specs.ListB.{core_b, scrambling_b, bond_b, superframe_b, list_b}
 use Rattle.wire.specs.Count.{less_one}
-use Rattle.s2xv2.specs.Encode.{bond_parts, scrambling_parts, nibble_of, plan_parts, core_values, stream_of, scrambling_of, timeslice_of, bond_of, superframe_of, parts_of, encode}
+use Rattle.s2xv2.specs.Encode.{bond_parts, scrambling_parts, plan_parts, core_values, stream_of, scrambling_of, timeslice_of, bond_of, superframe_of, parts_of, encode}
 use Rattle.s2xv2.specs.declared.record.S2Xv2SatelliteDeliverySystem.{S2Xv2SatelliteDeliverySystem}
-use Rattle.answers.specs.declared.option.OptionU32.TheVariants as O32
-use Rattle.s2xv2.specs.declared.superframe.OptionSuperframe.TheVariants as OS
 use Rattle.answers.proofs.Tests.{Clear, clear-left, clear-right}
 use Rattle.s2xv2.proofs.Whole.{bond-size}
-use Rattle.wire.specs.Flags.{when, and, not}
+use Rattle.wire.specs.Flags.{and, not}
 use Rattle.wire.proofs.Flags.{never}
 use Rattle.s2xv2_plain.specs.Input.{is_set, block_in, meant}
-use Rattle.s2xv2_plain.proofs.Back.{is-8, is_32}
+use Rattle.s2xv2_plain.proofs.Back.{is-there}
 use Rattle.s2xv2_measure.specs.Quick.{Packed}
-use Rattle.s2xv2_writer.proofs.Flags.{selected-set, there-scrambling, there-plan, there-nibble}
+use Rattle.s2xv2_writer.proofs.Flags.{selected-set, there-scrambling, there-plan}
+use Rattle.std.specs.Prelude.{Some}
+use Rattle.std.specs.Option.{unwrap_or}
+use Rattle.std.specs.Bool.{then_some}
 
 -- ---- a count that list B passes is 1 or 2
 
@@ -41,6 +43,17 @@ one-bond (suc n) h k = omega (arith, k)
 
 pub bond-room : (r n : ℕ) (ids : List ℕ) → less_one n < 2 → 5 ≤ sizes (bond_parts true r n ids)
 bond-room r n ids h = omega (arith, bond-size true r n ids, some-bond n h)
+
+-- ---- stores
+
+stored-sets : (l : List ℕ) (p : ℕ) (t : List ℕ) → stored_from l p t ≡ sets l p t
+unfolding stored_from
+stored-sets l p [] = refl
+stored-sets l p (v ∷ t) = ap (λ (k : ℕ). stored_from (set l p v) k t) (add-one p) ∙ stored-sets (set l p v) (suc p) t
+
+-- a part of a list that is written at once is a run of stores
+pub stored-part : (l : List ℕ) (p : ℕ) (t : List ℕ) → p + length t ≤ length l → take p l ++ (t ++ drop (p + length t) l) ≡ stored_from l p t
+stored-part l p t h = sym (stored-sets l p t ∙ sets-eq t l p h ∙ append_assoc (take p l) t (drop (p + length t) l))
 
 -- ---- parts one after the other
 
@@ -117,31 +130,26 @@ module _ (ws bs : List ℕ) (k : Packed bs) (b : Clear (scrambling_b (meant ws b
   abbrev there : Bool
   there = is_set (get_or bs 5 0)
 
-  asked-same : selected (some_bool_if (is_set (get_or bs 9 0)) asked) ≡ asked
+  asked-same : unwrap_or (then_some (is_set (get_or bs 9 0)) asked) false ≡ asked
   asked-same = selected-set (get_or bs 9 0) (get_or bs 1 0) k.asked
 
   there-asked : and asked (not there) ≡ false
-  there-asked = rw (asked-same, is_32 there (get_or ws 4 0)) at b.0
+  there-asked = rw (asked-same, is-there there (get_or ws 4 0)) at b.0
 
   -- the index is there where its selector asks for it
-  pub scrambling-same : scrambling_parts (is_set (get_or bs 1 0)) (get_or bs 26 0) (O32.Some (get_or ws 4 0)) ≡ scrambling_of (meant ws bs)
+  pub scrambling-same : scrambling_parts (is_set (get_or bs 1 0)) (get_or bs 26 0) (Some (get_or ws 4 0)) ≡ scrambling_of (meant ws bs)
   scrambling-same = rw asked-same (sym (there-scrambling asked there (get_or bs 26 0) (get_or ws 4 0) there-asked))
 
   -- and it is within its width
   pub scrambling-narrow : (and (is_set (get_or bs 1 0)) (wide 18 (get_or ws 4 0)) ≡ false) × (and (is_set (get_or bs 1 0)) (wide 6 (get_or bs 26 0)) ≡ false)
   scrambling-narrow = (there-narrow asked there (get_or ws 4 0) there-asked (rw asked-same at b.1.0), rw asked-same at b.1.1.0)
     where
-      there-narrow : (a t : Bool) (v : ℕ) → and a (not t) ≡ false → and a (wide 18 (or_zero32 (some32_if t v))) ≡ false → and a (wide 18 v) ≡ false
+      there-narrow : (a t : Bool) (v : ℕ) → and a (not t) ≡ false → and a (wide 18 (unwrap_or (then_some t v) 0)) ≡ false → and a (wide 18 v) ≡ false
       there-narrow true true v h k = k
       there-narrow true false v h k = never (sym h)
       there-narrow false t v h k = refl
 
-module _ (ws bs : List ℕ) (b : Clear (superframe_b (OS.Some (block_in ws bs)))) where
+module _ (ws bs : List ℕ) (b : Clear (superframe_b (Some (block_in ws bs)))) where
   -- the plan id is there where its selector asks for it
-  pub plan-same : plan_parts (is_set (get_or bs 3 0)) (some32_if (is_set (get_or bs 7 0)) (get_or ws 9 0)) ≡ plan_parts (is_set (get_or bs 3 0)) (O32.Some (get_or ws 9 0))
-  plan-same = there-plan (is_set (get_or bs 3 0)) (is_set (get_or bs 7 0)) (get_or ws 9 0) (rw (is_32 (is_set (get_or bs 7 0)) (get_or ws 9 0)) at b.1.1.1.1.1.0)
-
-  -- and so is SFFI
-  pub nibble-same : nibble_of (is_set (get_or bs 2 0)) (some8_if (is_set (get_or bs 6 0)) (get_or bs 29 0)) (get_or bs 30 0) ≡ when (is_set (get_or bs 2 0)) (get_or bs 29 0) (get_or bs 30 0)
-  nibble-same =
-      there-nibble (is_set (get_or bs 2 0)) (is_set (get_or bs 6 0)) (get_or bs 29 0) (get_or bs 30 0) (rw (is-8 (is_set (get_or bs 6 0)) (get_or bs 29 0)) at b.1.1.1.0)
+  pub plan-same : plan_parts (is_set (get_or bs 3 0)) (then_some (is_set (get_or bs 7 0)) (get_or ws 9 0)) ≡ plan_parts (is_set (get_or bs 3 0)) (Some (get_or ws 9 0))
+  plan-same = there-plan (is_set (get_or bs 3 0)) (is_set (get_or bs 7 0)) (get_or ws 9 0) (rw (is-there (is_set (get_or bs 7 0)) (get_or ws 9 0)) at b.1.1.1.1.1.0)

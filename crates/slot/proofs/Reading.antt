@@ -1,27 +1,28 @@
--- What reading a slot answers, by the way through the code: the form that is told, and the reader's answer for the body. The record that is shown comes back
--- from the arrays that it was stored into (`slot-back`).
+-- What reading a slot answers, by the way through the code: the form that is told, and the reader's answer for the body.
 -- Assumes nothing.
 use mathlib.Core.Path.{◌≡◌, refl, sym, ap, ◌∙◌}
 use mathlib.Core.List.{List, [], ◌∷◌}
 use Prim.Native.Nat.{ℕ, ◌+◌, ◌-◌, ◌≤◌}
 use native.Mathlib.Omega.{arith}
 use mathlib.Core.Option.{some}
+use mathlib.Core.Logic.{◌⊎◌, inl, inr}
 use lib.ListN.{length, take, drop, length-take, length-drop}
 use Rattle.answers.proofs.Answers.{refused-number}
 use Rattle.answers.specs.declared.answer.Refusal.{Refusal}
 use Rattle.answers.specs.Answer.{numbers}
 use Rattle.s2xv2.specs.Default.{default_record}
-use Rattle.s2xv2.specs.Read.{read_told, read_of, tail_of}
+use Rattle.s2xv2.specs.Read.{Reading, read_told, read_of, tail_of}
 use Rattle.s2xv2.proofs.Reach.{accepted-tail}
-use Rattle.s2xv2_plain.specs.Input.{meant}
-use Rattle.s2xv2_plain.specs.Output.{numbers_of, bytes_of}
-use Rattle.s2xv2_plain.proofs.Back.{back}
-use Rattle.s2xv2_reader.proofs.Shown.{shown-back}
+use Rattle.std.specs.Prelude.{Some, Ok, Err}
+use Rattle.s2xv2_reader.specs.declared.Parsed.{Parsed}
+use Rattle.s2xv2_reader.specs.Seen.{seen}
+use Rattle.slot.specs.Answer.{slot_seen}
 use Rattle.form.specs.Form.{byte_at, body_at, form_of}
 use Rattle.form.specs.declared.good.Form.{Form}
 use Rattle.form.specs.declared.good.Form.TheVariants as F
 use Rattle.form.proofs.Answers.{told-good}
 use Rattle.form.proofs.Laws.{ours-there}
+use Rattle.slot.specs.Part.{no_part, told_part}
 use Rattle.slot.specs.Read.{Shown, body_of, body_in, shows_body, shows_form, placed, shown}
 
 -- ---- by the form that is told
@@ -32,6 +33,17 @@ shows s f e = ap (shows_form s) e
 pub its-body : (s : List ℕ) (f : Form) → f ≡ form_of s → body_of s f ≡ body_in s
 unfolding body_in
 its-body s f e = ap (body_of s) e
+
+-- a slot of any other form than that of one of ours has no body, and no tail
+pub no-body : (s : List ℕ) (f : Form) → f ≡ form_of s → (f ≡ F.Size) ⊎ (((at : ℕ) × (f ≡ F.Broken at)) ⊎ (f ≡ F.Empty)) → [] ≡ body_in s
+no-body s f e (inl h) = its-body s F.Size (sym h ∙ e)
+no-body s f e (inr (inl h)) = its-body s (F.Broken h.0) (sym h.1 ∙ e)
+no-body s f e (inr (inr h)) = its-body s F.Empty (sym h ∙ e)
+
+pub no-tail : (s : List ℕ) (f : Form) → f ≡ form_of s → (f ≡ F.Size) ⊎ (((at : ℕ) × (f ≡ F.Broken at)) ⊎ (f ≡ F.Empty)) → no_part ≡ told_part (shown s).reading.told
+no-tail s f e (inl h) = ap (λ (x : Shown). told_part x.reading.told) (shows s F.Size (sym h ∙ e))
+no-tail s f e (inr (inl h)) = ap (λ (x : Shown). told_part x.reading.told) (shows s (F.Broken h.0) (sym h.1 ∙ e))
+no-tail s f e (inr (inr h)) = ap (λ (x : Shown). told_part x.reading.told) (shows s F.Empty (sym h ∙ e))
 
 -- the tail is that of the body, also where there is none: no bytes are no body
 no_bytes : tail_of [] ≡ []
@@ -64,6 +76,9 @@ module _ (s : List ℕ) (a : ℕ) (f : form_of s ≡ F.Ours a) where
     shows-body : shows_body a b ≡ shown s
     shows-body = ap (shows_body a) e ∙ shows s (F.Ours a) (sym f)
 
+    pub shows-reading : (shows_body a b).reading ≡ (shown s).reading
+    shows-reading = ap (λ (x : Shown). x.reading) shows-body
+
     pub tells-body : placed a (length b) (read_told b) ≡ (shown s).reading.told
     unfolding shows_body
     tells-body = ap (λ (x : Shown). x.reading.told) shows-body
@@ -73,7 +88,7 @@ module _ (s : List ℕ) (a : ℕ) (f : form_of s ≡ F.Ours a) where
     holds-body = ap (λ (x : Shown). x.reading.body) shows-body
 
 -- a refused body is told as the reader tells it
-pub placed-refused : (a size : ℕ) (why : Refusal) → numbers why ≡ placed a size (numbers why)
+placed-refused : (a size : ℕ) (why : Refusal) → numbers why ≡ placed a size (numbers why)
 placed-refused a size why = rw (refused-number why)
 
 -- the tail of a body that is accepted starts inside it
@@ -82,16 +97,19 @@ starts-within b l q n h = (accepted-tail b n (h ∙ q)).1
 
 -- ---- the record
 
--- that which is shown is what its plain numbers mean
-abbrev pub Back : Shown → Type 0
-Back x = meant (numbers_of x.reading.body) (bytes_of x.reading.body) ≡ x.reading.body
+-- what a body in the descriptor at a place reads as, by what the reader answers
+module _ (s : List ℕ) (at : ℕ) where
+  abbrev in_slot : Reading → Reading
+  in_slot x = record { told = placed at (length s) x.told; body = x.body }
 
-pub slot-back : (s : List ℕ) → Back (shown s)
-unfolding shown shows_body default_record
-slot-back s = go (form_of s)
-  where
-    go : (f : Form) → Back (shows_form s f)
-    go F.Size = back default_record refl
-    go (F.Broken at) = back default_record refl
-    go F.Empty = back default_record refl
-    go (F.Ours at) = shown-back (body_at s at)
+  pub seen-refused : (why : Refusal) → seen (Err why) ≡ read_of s → slot_seen (Err why) ≡ (shows_body at s).reading
+  unfolding shows_body
+  seen-refused why e = ap (λ (l : List ℕ). record { told = l; body = default_record }) (placed-refused at (length s) why) ∙ ap in_slot e
+
+  pub seen-accepted : (p : Parsed) → seen (Ok p) ≡ read_of s
+      → slot_seen (Ok (Some (record { tail = record { place = p.tail_start + (at + 3); length = length s - p.tail_start }; body = p.body }))) ≡ (shows_body at s).reading
+  unfolding shows_body
+  seen-accepted p e = ap in_slot e
+
+  pub seen-within : (p : Parsed) → seen (Ok p) ≡ read_of s → p.tail_start ≤ length s
+  seen-within p e = starts-within s _ (ap (λ (x : Reading). x.told) e) p.tail_start refl

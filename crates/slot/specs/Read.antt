@@ -9,7 +9,7 @@
 -- `shows_form`   that of any slot, by its form
 -- `shown`        what a slot reads as
 -- `ReadsAs`      a slot is in good form, and reads so
-use Rattle.std.specs.Prelude.{ℕ, ◌+◌, ◌-◌, ◌≡◌, true, List, [], length, get_or, eqb}
+use Rattle.std.specs.Prelude.{ℕ, ◌+◌, ◌-◌, ◌≡◌, true, List, [], length, get_or, eqb, Some, None, Ok}
 use Rattle.wire.specs.Flags.{when}
 use Rattle.answers.specs.Answer.{numbers, number_of}
 use Rattle.answers.specs.declared.answer.Refusal.TheVariants as R
@@ -17,7 +17,6 @@ use Rattle.s2xv2.specs.Default.{default_record}
 use Rattle.s2xv2.specs.Read.{Reading, read_of, tail_of}
 use Rattle.form.specs.Envelope.{envelope_size}
 use Rattle.slot.specs.Answer.{slot_told}
-use Rattle.slot.specs.declared.answer.SlotAnswer.TheVariants as A
 use Rattle.form.specs.Form.{body_at, good_form, form_of}
 use Rattle.form.specs.declared.good.Form.{Form}
 use Rattle.form.specs.declared.good.Form.TheVariants as F
@@ -32,7 +31,7 @@ abbrev pub without : List ℕ → Shown
 without told = record { reading = record { told = told; body = default_record }; tail = [] }
 
 abbrev pub shows_empty : Shown
-shows_empty = without (slot_told A.Empty)
+shows_empty = without (slot_told (Ok None))
 
 -- the body of the one of ours; no bytes where there is none, or where the slot is out of form
 abbrev pub body_of : List ℕ → Form → List ℕ
@@ -47,7 +46,7 @@ body_in s = body_of s (form_of s)
 -- the reader's numbers for a body of so many bytes in the descriptor at a place: an accepted body's tail has its place from the slot's start,
 -- and its length
 abbrev pub placed : ℕ → ℕ → List ℕ → List ℕ
-placed at size told = when (eqb (number_of told) 0) (slot_told (A.Accepted (get_or told 1 0 + (at + envelope_size)) (size - get_or told 1 0))) told
+placed at size told = when (eqb (number_of told) 0) (slot_told (Ok (Some (record { place = get_or told 1 0 + (at + envelope_size); length = size - get_or told 1 0 })))) told
 
 unfoldable pub shows_body : ℕ → List ℕ → Shown
 shows_body at body = record {

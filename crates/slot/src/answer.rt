@@ -1,21 +1,10 @@
-// What reading a slot answers. `specs/Answer.antt` gives the number of each answer and the numbers that it tells.
-use answers::answer::Refusal;
+// What reading a slot answers: `Ok(None)` for an empty one, and else what it holds. `specs/Answer.antt` gives the numbers that are told of it.
+use answers::plain::PlainPart;
 use s2xv2::record::S2Xv2SatelliteDeliverySystem;
 
-// What a slot holds, or why it cannot be told; also the answer of the call that empties one.
-#[derive(Clone, Copy)]
-pub enum SlotAnswer {
-    // The slot holds a record: where its tail starts, counted from the slot's start, and how long it is.
-    Accepted { place: usize, length: usize },
-    // The slot is in good form and holds no descriptor of ours.
-    Empty,
-    // The slot has a wrong size or form, or the reader refuses its body.
-    Refused(Refusal),
-}
-
-// The answer, and the record that the slot holds: where there is none, the Rust's `Default`.
-#[derive(Clone, Copy)]
-pub struct SlotRead {
-    pub answer: SlotAnswer,
+// The record that a slot holds, and where its tail stands in the slot.
+#[derive(Clone, Copy, PartialEq, Eq)]
+pub struct SlotRecord {
+    pub tail: PlainPart,
     pub body: S2Xv2SatelliteDeliverySystem,
 }

@@ -4,40 +4,37 @@
 
 use job::job::Job;
 use s2xv2::record::S2Xv2SatelliteDeliverySystem;
-use slot::answer::SlotAnswer;
 use std::io;
 use std::io::Read;
 
 // All stores of the job, each by a step of its own.
-fn run(job: Job, s: &mut [u8]) {
-    let mut j = job;
-    let mut i: usize = 0;
-    while i < 259 {
-        let stepped = j.step(s, 1);
-        j = stepped.job;
-        i += 1;
+fn run(mut job: Job, s: &mut [u8]) {
+    for _ in 0..259 {
+        job = job.step(s, 1).job;
     }
 }
 
 // The same job `n` times.
 fn run_often(job: Job, s: &mut [u8], n: usize) {
-    let mut i: usize = 0;
-    while i < n {
+    for _ in 0..n {
         run(job, s);
-        i += 1;
     }
 }
 
 // Writes whether the slot holds a record.
 fn tell(rt: &impl Print, s: &[u8]) -> io::Result<()> {
-    let answer = slot::read::read(s).answer;
-    match answer {
-        SlotAnswer::Accepted {
-            place: _,
-            length: _,
-        } => println!(rt; "record"),
-        SlotAnswer::Empty => println!(rt; "empty"),
-        SlotAnswer::Refused(_) => println!(rt; "refused"),
+    match slot::read::read(s) {
+        Ok(Some(_)) => println!(rt; "record"),
+        Ok(None) => println!(rt; "empty"),
+        Err(_) => println!(rt; "refused"),
+    }
+}
+
+// The job that stores the default record in the slot: the job of all 0 where `begin` refuses.
+fn begun(s: &[u8]) -> Job {
+    match begin::begin(s, S2Xv2SatelliteDeliverySystem::default(), &[]) {
+        Ok(begun) => begun.job,
+        Err(_) => begin::no_job(),
     }
 }
 
@@ -46,9 +43,7 @@ fn main(rt: HostRuntime) -> io::Result<()> {
     let mut input = [0u8; 64];
     let n = rt.stdin().read(&mut input)?;
     let mut slot = [0u8; 257];
-    slot::empty::make_empty(&mut slot);
-    let begun = begin::begin(&slot, S2Xv2SatelliteDeliverySystem::default(), &input[0..0]);
-    let job = begun.job;
-    run_often(job, &mut slot, n);
+    let _ = slot::empty::make_empty(&mut slot);
+    run_often(begun(&slot), &mut slot, n);
     tell(&rt, &slot)
 }

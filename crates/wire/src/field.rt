@@ -9,8 +9,10 @@ pub fn field(b: u8, d: u8, m: u8) -> u8
 {
     if d == 0 {
         0
+    } else if m == 0 {
+        b / d
     } else {
-        if m == 0 { b / d } else { b / d % m }
+        b / d % m
     }
 }
 
@@ -18,14 +20,14 @@ pub fn field(b: u8, d: u8, m: u8) -> u8
 pub fn flag(b: u8, d: u8) -> bool
     ensures { result ≡ is_one (b / d % 2) }
 {
-    if d == 0 { false } else { b / d % 2 == 1 }
+    d != 0 && b / d % 2 == 1
 }
 
 // A flag as a bit.
 pub fn bit_of(b: bool) -> u8
     ensures { (result ≡ bit b) × (result < 2) }
 {
-    if b { 1 } else { 0 }
+    u8::from(b)
 }
 
 // The first number where the flag is set, and the second where it is clear.
@@ -36,6 +38,7 @@ pub fn picked(flag: u8, first: u8, second: u8) -> u8
 }
 
 // The bits of both bytes: below a power of two only if both are.
+#[tactic(auto, unfolding(crate::specs::Flags::joined_of))]
 pub fn joined(a: u8, b: u8) -> u8
     ensures { result ≡ joined_of a b }
 {

@@ -9,12 +9,6 @@ use Rattle.begin.proofs.sized_plain.Goals as goal
 pub returns-then-is_fit : goal.returns-then-is_fit
 returns-then-is_fit c =
     let a = c.args in
-    let stage = c.stage_plain-d.ensures c.if-d-ne0.true in
     let fits = sym c.is_fit.ensures ∙ c.if-is_fit.true in
-    let w = crossed (begun a.n (meant a.w.now a.b.now) a.reserved_tail.now _ _ c.requires stage fits) c.accepted.ensures refl refl in
-    record { answer = w.0; bytes = w.1.0; numbers = w.1.1 }
-
-pub returns : goal.returns
-returns c =
-    let w = crossed (rw c.of_plain.ensures at c.begin_sized-begun.ensures) c.answer_out.ensures refl refl in
+    let w = crossed (begun a.n (meant a.w.now a.b.now) a.reserved_tail.now _ _ c.requires c.in-Some.ensures fits) c.accepted.ensures refl refl in
     record { answer = w.0; bytes = w.1.0; numbers = w.1.1 }

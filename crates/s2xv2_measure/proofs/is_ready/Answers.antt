@@ -1,6 +1,5 @@
 -- `s2xv2_measure::is_ready` meets its contract: what both lists pass, and there is room for, is written.
 -- Assumes nothing.
-use Rattle.wire.proofs.Flags.{never}
 use Rattle.s2xv2.specs.Encode.{encoded_length}
 use Rattle.s2xv2_measure.proofs.Accepted.{ready}
 use Rattle.s2xv2_measure.proofs.is_ready.Goals as goal
@@ -17,9 +16,3 @@ returns-then-fits c =
       told = (λ e. ready _ c.args.reserved_tail.now 0 _ (fits.lists taken) (c.has_room.ensures.within e w, c.has_room.ensures.fits e w));
       bits = (λ e. (fits.bits taken).packed);
     }
-
-pub returns : goal.returns
-returns c = record {
-  told = (λ e. never e);
-  bits = (λ e. never e);
-}

@@ -13,16 +13,15 @@ use Rattle.s2xv2.specs.Length.{length_told}
 use Rattle.s2xv2.specs.declared.record.S2Xv2SatelliteDeliverySystem.{S2Xv2SatelliteDeliverySystem}
 use Rattle.s2xv2_plain.specs.declared.types.Plain.{Plain}
 use Rattle.s2xv2_measure.specs.Quick.{Counted}
-use Rattle.s2xv2_measure.proofs.Accepted.{capped_same}
+use Rattle.s2xv2_measure.proofs.Accepted.{placed, placed-none, capped_same}
 use Rattle.s2xv2_measure.proofs.Sizes.{counted_of}
 use Rattle.s2xv2_measure.proofs.serialized_len.Goals as goal
 
-pub returns-then-place-ne0 : goal.returns-then-place-ne0
+pub returns-in-Some : goal.returns-in-Some
 unfolding length_told
-returns-then-place-ne0 c =
-    let i = c.inconsistency-place.ensures in
-    let h : 0 < c.inconsistency-place.result = omega (arith, c.if-place-ne0.true) in
-    simp (sym i, lt-ltb _ _ h)
+returns-in-Some c =
+    let k = placed _ _ (sym c.inconsistency.ensures ∙ c.in-Some.is) in
+    simp (k.0, lt-ltb _ _ k.1)
 
 pub parts_len-requires : goal.parts_len-requires
 parts_len-requires c =
@@ -32,23 +31,23 @@ parts_len-requires c =
 pub returns-then-need-gt4096 : goal.returns-then-need-gt4096
 unfolding length_told encoded_length
 returns-then-need-gt4096 c =
-    let i = c.inconsistency-place.ensures in
+    let i = placed-none _ (sym c.inconsistency.ensures ∙ c.in_default.is) in
     let t = length c.args.reserved_tail.now in
     let p = c.parts_len in
     let s = p.ensures.size c.to_plain-plain.result.numbers ∙ ap (λ (r : S2Xv2SatelliteDeliverySystem). sizes (parts_of r)) c.to_plain-plain.ensures.back in
     let e = ap (λ (k : ℕ). p.result + k) c.tail_len.ensures in
     let h : 4096 < p.result + t = omega (arith, e, c.if-need-gt4096.true) in
-    simp (sym i ∙ c.if-place-ne0.false, sym s, lt-ltb _ _ h)
+    simp (i, sym s, lt-ltb _ _ h)
     (ap (λ (n : ℕ). 2 ∷ n ∷ []) (c.saturated.ensures ∙ ap saturated e ∙ capped_same p.result t))
 
 pub returns : goal.returns
 unfolding length_told encoded_length
 returns c =
-    let i = c.inconsistency-place.ensures in
+    let i = placed-none _ (sym c.inconsistency.ensures ∙ c.in_default.is) in
     let t = length c.args.reserved_tail.now in
     let p = c.parts_len in
     let k = c.tail_len in
     let s = p.ensures.size c.to_plain-plain.result.numbers ∙ ap (λ (r : S2Xv2SatelliteDeliverySystem). sizes (parts_of r)) c.to_plain-plain.ensures.back in
     let e : p.result + k.result ≡ p.result + t = omega (arith, k.ensures, c.if-need-gt4096.false) in
     let h : p.result + t ≤ 4096 = omega (arith, e, c.if-need-gt4096.false) in
-    simp (sym i ∙ c.if-place-ne0.false, sym s, le-ltb _ _ h) (ap (λ (n : ℕ). 0 ∷ n ∷ []) e)
+    simp (i, sym s, le-ltb _ _ h) (ap (λ (n : ℕ). 0 ∷ n ∷ []) e)

@@ -1,16 +1,18 @@
--- `s2xv2_reader::parse` meets its contract: an end that is not 0 is what is told, and what was stored means the record that is shown.
+-- `s2xv2_reader::parse` meets its contract: an end is what is told, and what was stored means the record that is shown.
 -- Assumes nothing.
+use Rattle.std.specs.Prelude.{◌≡◌, [], ◌∷◌}
+use Rattle.s2xv2.specs.Read.{read_told}
 use Rattle.s2xv2_reader.proofs.Shown.{tells-end, shown-back}
 use Rattle.s2xv2_reader.proofs.parse.Goals as goal
-
-pub returns-then-end-eq0 : goal.returns-then-end-eq0
-returns-then-end-eq0 c =
-    let s = c.args.sel.now in
-    let e = c.read_into-end.ensures in
-    simp (c.parse_answer.ensures, c.of_plain-body.ensures, e.numbers, e.bytes, shown-back s)
+use Rattle.s2xv2_reader.proofs.parse.Goals.{in-Some, in-None+in_ok-tail_start-in-None}
 
 pub returns : goal.returns
 returns c =
     let s = c.args.sel.now in
-    let e = c.read_into-end.ensures in
-    simp (tells-end s _ e.end c.if-end-eq0.false, c.of_plain-body.ensures, e.numbers, e.bytes, shown-back s)
+    let e = c.read_into.ensures in
+    let t : 0 ∷ c.match-read_into.tail_start ∷ [] ≡ read_told s =
+    elim c.match-read_into.branch [
+      | in-Some w ↦ rw w.tail_start-is (tells-end s _ w.in-Some.ensures.end)
+      | in-None+in_ok-tail_start-in-None w ↦ rw w.tail_start-is w.in_ok-tail_start-in-None.ensures
+    ] in
+    simp (t, c.of_plain.ensures, e.numbers, e.bytes, shown-back s)

@@ -14,5 +14,5 @@ pub returns : goal.returns
 unfolding body_size least_total
 returns c =
     let s = c.args.sel.now in
-    let e = simp (c.ends_of-e.ensures, c.present_in-k.ensures) at c.missing.ensures in
+    let e = simp (c.ends_of.ensures, c.present_in.ensures) at c.missing.ensures in
     ◌∙◌ {b = short_told (short_of s) (length s) (parts s (present_in s)) (0 ∷ body_size s ∷ [])} e (sym (told-within s c.if-sel-gt4096.false))

@@ -1,35 +1,18 @@
--- `s2xv2_writer::write_ready` meets its contract: what the quick tests pass is stored, and it is never 0 bytes.
+-- `s2xv2_writer::write_ready` meets its contract: what the quick tests pass is stored.
 -- Assumes nothing.
 use mathlib.Core.Path.{refl}
-use native.Mathlib.Omega.{arith}
-use Rattle.s2xv2.specs.Encode.{encoded_length}
-use Rattle.s2xv2.proofs.Whole.{parts-split}
 use Rattle.s2xv2_plain.specs.Input.{meant}
-use Rattle.s2xv2_writer.proofs.Ready.{not-clear, ready-clear, ready-wrote}
+use Rattle.s2xv2_writer.proofs.Ready.{ready-clear, ready-wrote}
 use Rattle.s2xv2_writer.proofs.write_ready.Goals as goal
 
-pub returns-then-not-is_ready : goal.returns-then-not-is_ready
-returns-then-not-is_ready c = record {
-  wrote = (λ z. absurd (z refl));
-  kept = (λ z. refl);
-}
-
-pub put_all-requires : goal.put_all-requires
-put_all-requires c =
+pub put_all-requires-clause-packed : goal.put_all-requires-clause-packed
+put_all-requires-clause-packed c =
     let a = c.args in
-    let ready = c.is_ready in
-    let yes = not-clear _ c.if-not-is_ready.false-raw in
-    let w = ready.ensures.told yes in
-    record { tail_in_bounds = w.fits; packed = (ready.ensures.bits yes, ready-clear (meant a.w.now a.b.now) _ _ w) }
+    let ready = c.if-not-is_ready.ensures in
+    (ready.bits refl, ready-clear (meant a.w.now a.b.now) _ _ (ready.told refl))
 
-pub returns : goal.returns
-unfolding encoded_length
-returns c =
+pub returns-clause-wrote : goal.returns-clause-wrote
+returns-clause-wrote c =
     let a = c.args in
-    let ready = c.is_ready.ensures.told (not-clear _ c.if-not-is_ready.false-raw) in
     let e = c.put_all.ensures in
-    let wrote = ready-wrote (meant a.w.now a.b.now) a.reserved_tail.now a.buf.now _ _ ready e.place e.stored in
-    record {
-      wrote = (λ z. wrote);
-      kept = (λ z. absurd (omega (arith, z, e.place, parts-split (meant a.w.now a.b.now))));
-    }
+    ready-wrote (meant a.w.now a.b.now) a.reserved_tail.now a.buf.now _ _ (c.if-not-is_ready.ensures.told refl) e.place e.stored

@@ -17,10 +17,7 @@ returns c =
     let n = length c.args.s.now in
     let a = c.args.allowance in
     let moved = c.advanced-m.ensures in
-    let made = ap {B = PlainStepped} (λ (m : PlainMoved). record {
-      job = with_made j m.made;
-      told = record { stores = m.stores; number = m.number; done = m.done };
-    }) moved.told in
+    let made = ap {B = PlainStepped} (λ (m : PlainMoved). record { job = with_made j m.made; told = m.told }) moved.told in
     let kept = ap {B = PlainStepped} (λ (x : Job). record { job = x; told = advanced_out (step_of j n a) }) (step_keeps j n a) in
     record {
       told = made ∙ kept;

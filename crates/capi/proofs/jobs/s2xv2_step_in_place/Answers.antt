@@ -13,7 +13,7 @@ returns c =
     let j = c.args.job.now in
     let moved = c.advanced-m.ensures in
     record {
-      told = ap {B = PlainAdvanced} (λ (m : PlainMoved). record { stores = m.stores; number = m.number; done = m.done }) moved.told;
+      told = ap {B = PlainAdvanced} (λ (m : PlainMoved). m.told) moved.told;
       job = ap {B = Job} (λ (m : PlainMoved). with_made j m.made) moved.told ∙ step_keeps j (length c.args.s.now) c.args.allowance;
       left = moved.left;
     }

@@ -7,7 +7,7 @@ use Rattle.form.proofs.Loop.{in_hand}
 use Rattle.form.proofs.good.walk.Given as goal
 
 abbrev pub invariant-loop-at : goal.invariant-loop-at
-invariant-loop-at l = (l.at ≤ length l.s) × ((l.ours ≤ length l.s) × Upto l.s l.at (in_hand (length l.s) l.ours))
+invariant-loop-at l = (l.at ≤ length l.s) × Upto l.s l.at (in_hand l.ours)
 
 abbrev pub decreases-loop-at : goal.decreases-loop-at
 decreases-loop-at l = length l.s - l.at

@@ -1,13 +1,16 @@
--- `hexadecimal::decode::add` meets its contract: the arm that was taken says whether a digit was held.
+-- `hexadecimal::decode::add` meets its contract: a second digit makes a byte.
 -- Assumes nothing.
-use Rattle.hexadecimal.proofs.Pens.{kept, whole}
+use mathlib.Core.Path.{sym, ap}
+use Rattle.lines.specs.Out.{Out, write}
+use Rattle.hexadecimal.specs.Text.{pairs_of}
 use Rattle.hexadecimal.proofs.decode.add.Goals as goal
 
-pub returns-in-None : goal.returns-in-None
-returns-in-None c = kept _ c.args.pen c.args.d c.in-None.is c.requires.1
-
 pub returns-in-Some : goal.returns-in-Some
+unfolding write pairs_of
 returns-in-Some c =
-    let a = c.args in
-    let e = c.in-Some.is in
-    whole _ a.pen _ a.d _ _ e c.put.ensures
+    let p = c.put.ensures in
+    record {
+      low = tt;
+      buffer = p.same;
+      same = λ rest. rw c.in-Some.is (sym (ap (λ (o : Out). write o (pairs_of rest)) p.wrote.is));
+    }

@@ -7,7 +7,7 @@ use Rattle.s2xv2_fields.proofs.core_part.carrier.Goals as goal
 pub returns : goal.returns
 unfolding core_lines
 returns c =
-    then4 c.line8-at.ensures
-    c.line32-at.ensures
-    c.line32-at-2.ensures
-    c.line32.ensures
+    then4 c.line.ensures
+    c.line-2.ensures
+    c.line-3.ensures
+    c.line-4.ensures

@@ -7,7 +7,7 @@ use Rattle.s2xv2_fields.proofs.core_part.core.Goals as goal
 pub returns : goal.returns
 unfolding core_text core_lines
 returns c =
-    and_then _ _ c.start-at.ensures
-    (and_then _ _ c.flags-at.ensures
-    (and_then _ _ c.bond-at.ensures
+    and_then _ _ c.start.ensures
+    (and_then _ _ c.flags.ensures
+    (and_then _ _ c.bond.ensures
     c.carrier.ensures))

@@ -7,7 +7,7 @@ use Rattle.s2xv2_fields.proofs.core_part.flags.Goals as goal
 pub returns : goal.returns
 unfolding core_lines
 returns c =
-    then4 c.line8-at.ensures
-    c.line8-at-2.ensures
-    c.flag-at.ensures
-    c.flag.ensures
+    then4 c.line.ensures
+    c.line-2.ensures
+    c.line-3.ensures
+    c.line-4.ensures

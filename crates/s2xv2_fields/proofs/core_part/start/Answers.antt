@@ -7,7 +7,7 @@ use Rattle.s2xv2_fields.proofs.core_part.start.Goals as goal
 pub returns : goal.returns
 unfolding core_lines
 returns c =
-    then4 c.line-at.ensures
-    c.line32-at.ensures
-    c.mode-at.ensures
-    c.flag.ensures
+    then4 c.line.ensures
+    c.line-2.ensures
+    c.mode.ensures
+    c.line-3.ensures

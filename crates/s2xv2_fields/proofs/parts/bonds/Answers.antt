@@ -5,14 +5,10 @@ use Rattle.s2xv2_fields.specs.Fields.{bonds_of}
 use Rattle.lines.proofs.Laws.{nothing, then3}
 use Rattle.s2xv2_fields.proofs.parts.bonds.Goals as goal
 
-pub returns-then-count-eq0 : goal.returns-then-count-eq0
+pub returns-then-count-ne0 : goal.returns-then-count-ne0
 unfolding bonds_of
-returns-then-count-eq0 c = rw (eq-eqb _ _ c.if-count-eq0.true) nothing
+returns-then-count-ne0 c = rw (ne_eqb _ _ c.if-count-ne0.true) (then3 c.line.ensures c.id.ensures c.second.ensures)
 
-pub returns : goal.returns
+pub returns-else-count-ne0 : goal.returns-else-count-ne0
 unfolding bonds_of
-returns c =
-    rw (ne_eqb _ _ c.if-count-eq0.false)
-    (then3 c.line8-at.ensures
-    c.id-at.ensures
-    c.second.ensures)
+returns-else-count-ne0 c = rw (eq-eqb _ _ c.if-count-ne0.false) nothing

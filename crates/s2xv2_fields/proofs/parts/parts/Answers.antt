@@ -7,7 +7,7 @@ use Rattle.s2xv2_fields.proofs.parts.parts.Goals as goal
 pub returns : goal.returns
 unfolding parts_text
 returns c =
-    then4 c.part-at.ensures
-    c.scrambling-at.ensures
-    c.part-at-2.ensures
+    then4 c.part.ensures
+    c.scrambling.ensures
+    c.part-2.ensures
     c.bonds.ensures

@@ -8,9 +8,9 @@ pub returns-in-Some : goal.returns-in-Some
 unfolding scrambling_of
 returns-in-Some c =
     rw c.in-Some.is
-    (then2 c.line8-at.ensures
-    c.line32.ensures)
+    (then2 c.line.ensures
+    c.line-in-Some.ensures)
 
-pub returns-in-None : goal.returns-in-None
+pub returns-in_default : goal.returns-in_default
 unfolding scrambling_of
-returns-in-None c = rw c.in-None.is nothing
+returns-in_default c = rw c.in_default.is nothing

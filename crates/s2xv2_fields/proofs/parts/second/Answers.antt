@@ -5,10 +5,10 @@ use Rattle.s2xv2_fields.specs.Fields.{second_of}
 use Rattle.lines.proofs.Laws.{nothing}
 use Rattle.s2xv2_fields.proofs.parts.second.Goals as goal
 
-pub returns-then-count-eq1 : goal.returns-then-count-eq1
+pub returns-else-count-ne1 : goal.returns-else-count-ne1
 unfolding second_of
-returns-then-count-eq1 c = rw (eq-eqb _ _ c.if-count-eq1.true) nothing
+returns-else-count-ne1 c = rw (eq-eqb _ _ c.if-count-ne1.false) nothing
 
-pub returns-else-count-eq1 : goal.returns-else-count-eq1
+pub returns-then-count-ne1 : goal.returns-then-count-ne1
 unfolding second_of
-returns-else-count-eq1 c = rw (ne_eqb _ _ c.if-count-eq1.false) c.id.ensures
+returns-then-count-ne1 c = rw (ne_eqb _ _ c.if-count-ne1.true) c.id.ensures

@@ -7,6 +7,6 @@ use Rattle.s2xv2_fields.proofs.superframe.block.Goals as goal
 pub returns : goal.returns
 unfolding block_lines
 returns c =
-    and_then _ _ c.block_start-at.ensures
-    (and_then _ _ c.block_middle-at.ensures
+    and_then _ _ c.block_start.ensures
+    (and_then _ _ c.block_middle.ensures
     c.block_end.ensures)

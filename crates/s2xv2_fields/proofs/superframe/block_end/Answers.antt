@@ -6,4 +6,4 @@ use Rattle.s2xv2_fields.proofs.superframe.block_end.Goals as goal
 
 pub returns : goal.returns
 unfolding block_lines
-returns c = then2 c.line8-at.ensures c.line8.ensures
+returns c = then2 c.line.ensures c.line-2.ensures

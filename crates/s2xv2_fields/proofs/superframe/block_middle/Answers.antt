@@ -7,7 +7,7 @@ use Rattle.s2xv2_fields.proofs.superframe.block_middle.Goals as goal
 pub returns : goal.returns
 unfolding block_lines
 returns c =
-    then4 c.line32-at.ensures
-    c.nibble-at.ensures
-    c.line32-at-2.ensures
-    c.plan.ensures
+    then4 c.line.ensures
+    c.or_reserved.ensures
+    c.line-2.ensures
+    c.part.ensures

@@ -7,7 +7,7 @@ use Rattle.s2xv2_fields.proofs.superframe.block_start.Goals as goal
 pub returns : goal.returns
 unfolding block_lines
 returns c =
-    then4 c.line8-at.ensures
-    c.flag-at.ensures
-    c.flag-at-2.ensures
-    c.line8.ensures
+    then4 c.line.ensures
+    c.line-2.ensures
+    c.line-3.ensures
+    c.line-4.ensures

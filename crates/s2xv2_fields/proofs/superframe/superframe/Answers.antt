@@ -8,6 +8,6 @@ pub returns-in-Some : goal.returns-in-Some
 unfolding superframe_text
 returns-in-Some c = rw c.in-Some.is c.block.ensures
 
-pub returns-in-None : goal.returns-in-None
+pub returns-in_default : goal.returns-in_default
 unfolding superframe_text
-returns-in-None c = rw c.in-None.is nothing
+returns-in_default c = rw c.in_default.is nothing

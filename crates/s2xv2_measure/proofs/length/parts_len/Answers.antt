@@ -1,12 +1,12 @@
 -- `s2xv2_measure::length::parts_len` meets its contract: the size of the parts is the sum of these.
 -- Assumes nothing.
 use native.Mathlib.Omega.{arith}
-use Rattle.answers.proofs.Options.{is-selected}
 use Rattle.s2xv2.proofs.Whole.{parts-size}
 use Rattle.s2xv2_plain.specs.Input.{meant}
-use Rattle.s2xv2_plain.proofs.Back.{is-8}
+use Rattle.s2xv2_plain.proofs.Back.{is-there}
 use Rattle.s2xv2_measure.proofs.Sizes.{block_size}
 use Rattle.s2xv2_measure.proofs.length.parts_len.Goals as goal
+use Rattle.answers.proofs.Options.{is-selected}
 
 pub returns : goal.returns
 returns c =
@@ -20,7 +20,7 @@ returns c =
         c.byte_len-2.ensures,
         c.scrambling_len.ensures,
         c.byte_len.ensures,
-        simp (is-8, is-selected) at (parts-size (meant ws b)),
+        simp (is-there, is-selected) at (parts-size (meant ws b)),
       ));
       small = omega arith;
     }

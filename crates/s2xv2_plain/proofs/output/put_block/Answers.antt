@@ -5,4 +5,4 @@ use Rattle.s2xv2_plain.proofs.output.put_block.Goals as goal
 
 pub returns : goal.returns
 unfolding stored_from
-returns c = simp (c.or_zero.ensures, c.block_of-f.ensures)
+returns c = simp (c.unwrap_or.ensures, c.block_of-f.ensures)

@@ -7,8 +7,8 @@ pub returns : goal.returns
 unfolding stored_from
 returns c =
     simp (
-      c.or_zero-2.ensures,
-      c.or_zero.ensures,
+      c.unwrap_or-2.ensures,
+      c.unwrap_or.ensures,
       c.to_u8.ensures,
       c.bit_of-2.ensures.0,
       c.bit_of.ensures.0,

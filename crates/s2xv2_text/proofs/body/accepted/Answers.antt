@@ -7,7 +7,7 @@ use Rattle.s2xv2_text.proofs.body.accepted.Goals as goal
 pub returns : goal.returns
 unfolding body_of
 returns c =
-    then4 c.core-at.ensures
-    c.parts-at.ensures
-    c.superframe-at.ensures
+    then4 c.core.ensures
+    c.parts.ensures
+    c.superframe.ensures
     c.line.ensures

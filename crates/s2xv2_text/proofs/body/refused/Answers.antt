@@ -7,6 +7,6 @@ use Rattle.s2xv2_text.proofs.body.refused.Goals as goal
 pub returns : goal.returns
 unfolding refused_of
 returns c =
-    then3 c.copy-at.ensures
-    c.numbers-at.ensures
+    then3 c.copy.ensures
+    c.numbers.ensures
     c.put.ensures

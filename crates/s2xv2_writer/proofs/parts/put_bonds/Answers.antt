@@ -25,23 +25,23 @@ put-requires c =
     let k = rw (eq-eqb _ _ c.if-bond-eq1.true) at c.requires.second_in_bounds in
     omega (arith, bond-room a.reserved a.count (a.first ∷ a.second ∷ []) h)
 
-pub put_32-requires : goal.put_32-requires
-put_32-requires c =
+pub copy-requires : goal.copy-requires
+copy-requires c =
     let if1 = c.if-bond-eq1 in
     let a = c.args in
     let h = narrow-if _ 1 _ c.requires.count_value.0 (eq-eqb _ _ if1.true) in
     let k = rw (eq-eqb _ _ if1.true) at c.requires.second_in_bounds in
     omega (arith, bond-room a.reserved a.count (a.first ∷ a.second ∷ []) h, c.put.auto.buf)
 
-pub put_32-requires-then-count-eq2 : goal.put_32-requires-then-count-eq2
+pub copy-requires-then-count-eq2 : goal.copy-requires-then-count-eq2
 unfolding bond_parts
-put_32-requires-then-count-eq2 c =
+copy-requires-then-count-eq2 c =
     let k = rw (
       eq-eqb _ _ c.if-bond-eq1.true,
       c.if-count-eq2.true,
     )
     at c.requires.second_in_bounds in
-    omega (arith, c.put_32.auto.buf, c.put.auto.buf)
+    omega (arith, c.copy.auto.buf, c.put.auto.buf)
 
 pub returns-then-count-eq2 : goal.returns-then-count-eq2
 unfolding bond_parts
@@ -53,8 +53,8 @@ returns-then-count-eq2 c =
       c.less_one.ensures,
     )
     at c.put.ensures in
-    let e₂ = c.put_32.ensures in
-    let e₃ = c.put_32-then-count-eq2.ensures in
+    let e₂ = rw c.be_bytes.ensures at c.copy.ensures in
+    let e₃ = rw c.be_bytes-then-count-eq2.ensures at c.copy-then-count-eq2.ensures in
     rw (
       eq-eqb _ _ c.if-bond-eq1.true,
       if2.true,
@@ -72,7 +72,7 @@ returns-else-count-eq2 c =
       c.less_one.ensures,
     )
     at c.put.ensures in
-    let e₂ = c.put_32.ensures in
+    let e₂ = rw c.be_bytes.ensures at c.copy.ensures in
     let n = one-bond a.count h c.if-count-eq2.false in
     rw (eq-eqb _ _ if1.true, n) (record { place = refl; stored = run _ _ _ _ _ (rw n at e₁) e₂ refl })
 

@@ -7,13 +7,13 @@ use Rattle.wire.specs.Store.{stored_from}
 use borrow.Author.Tests.{eq-eqb, ne_eqb}
 use Rattle.s2xv2_writer.proofs.parts.put_plan.Goals as goal
 
-pub put_32-requires : goal.put_32-requires
-put_32-requires c =
+pub copy-requires : goal.copy-requires
+copy-requires c =
     let h = rw (ne_eqb _ _ c.if-there-ne0.true) at c.requires in
     omega arith
 
 pub returns-then-there-ne0 : goal.returns-then-there-ne0
-returns-then-there-ne0 c = rw (ne_eqb _ _ c.if-there-ne0.true) (record { place = refl; stored = c.put_32.ensures })
+returns-then-there-ne0 c = rw (ne_eqb _ _ c.if-there-ne0.true) (record { place = refl; stored = rw c.be_bytes.ensures at c.copy.ensures })
 
 pub returns-else-there-ne0 : goal.returns-else-there-ne0
 unfolding stored_from

@@ -1,9 +1,0 @@
--- `lines::line::word` meets its contract: one text after the other.
--- Assumes nothing.
-use Rattle.lines.specs.Line.{word_of}
-use Rattle.lines.proofs.Laws.{then2}
-use Rattle.lines.proofs.line.word.Goals as goal
-
-pub returns : goal.returns
-unfolding word_of
-returns c = then2 c.put-at.ensures c.decimal.ensures
