@@ -1,7 +1,7 @@
 // A lent buffer that is filled from a place on, as far as it reaches.
 ghost use Rattle.std.specs.Prelude.{◌≡◌, ◌∷◌, []};
 ghost use Rattle.lines.specs.Out.{◌from◌};
-ghost use Rattle.lines.specs.Sheet.{out_of, Put};
+ghost use Rattle.lines.specs.Sheet.{buffer_of, out_of, Put};
 
 use crate::put;
 
@@ -16,7 +16,7 @@ pub struct Sheet<'a> {
 impl<'a> Sheet<'a> {
     // A sheet that is filled from the start of the buffer on.
     pub fn new(out: &'a mut [u8]) -> Self
-        ensures same { result.out.ghost_name ≡ out.entry.ghost_name }
+        ensures same { buffer_of result ≡ out.entry.ghost_name }
         ensures start { out_of result ≡ out.old from 0 }
     {
         Sheet { out, at: 0 }
@@ -24,7 +24,7 @@ impl<'a> Sheet<'a> {
 
     // The place behind what was put.
     pub fn at(&self) -> usize
-        ensures { result ≡ self.now.at }
+        ensures { result ≡ (out_of self.now).at }
     {
         self.at
     }

@@ -5,12 +5,12 @@ use mathlib.Core.Path.{◌≡◌}
 use mathlib.Core.List.{◌++◌}
 use lib.ListN.{drop}
 use Rattle.lines.specs.Out.{write}
-use Rattle.lines.specs.Sheet.{out_of}
+use Rattle.lines.specs.Sheet.{buffer_of, out_of}
 use Rattle.hexadecimal.specs.Text.{digits_of, pairs_of, hex_bytes}
 use Rattle.hexadecimal.specs.Pen.{held_in, Low}
 use Rattle.hexadecimal.proofs.decode.bytes.Given as goal
 
 abbrev pub invariant-loop-c : goal.invariant-loop-c
 invariant-loop-c l = (Low (held_in l.high))
-    × (l.sheet.out.ghost_name ≡ l.initial.sheet.out.ghost_name)
+    × (buffer_of l.sheet ≡ buffer_of l.initial.sheet)
     × (write (out_of l.initial.sheet) (hex_bytes l.text) ≡ write (out_of l.sheet) (pairs_of (held_in l.high ++ digits_of (drop l.c-index l.text))))
