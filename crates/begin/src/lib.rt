@@ -106,6 +106,16 @@ fn begin_sized(
     fit(n, length + 3, r, reserved_tail)
 }
 
+// The job that an answer of `begin` gives: where it is refused the job of zeros, which every step refuses.
+pub fn job_in(begun: Result<Begun, Refusal>) -> Job
+    ensures { result ≡ (begun_seen begun).job }
+{
+    match begun {
+        Ok(begun) => begun.job,
+        Err(_) => no_job(),
+    }
+}
+
 // A job that is to store the record and its tail in the slot. Stores nothing. Refuses a slot of a wrong size, one that is not in good form, a record that
 // contradicts itself, an encoding of more than 4,096 bytes, a descriptor that does not fit, and a value that the wire cannot carry, in this order.
 pub fn begin(

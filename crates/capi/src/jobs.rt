@@ -82,9 +82,9 @@ fn advanced(
     }
 }
 
-// `Job::step` of the library: the staged bytes are lent on, so that the job is copied once.
+// `Job::step` of the library: the staged bytes are lent on, and the job is given back whole: what C keeps between its fields comes back too.
 #[unsafe(no_mangle)]
-pub extern "C" fn s2xv2_step(j: Job, s: &mut [u8], allowance: usize) -> PlainStepped
+pub extern "C" fn s2xv2_step(mut j: Job, s: &mut [u8], allowance: usize) -> PlainStepped
     ensures told { result ≡ stepped_out (step_of j (length s.old) allowance) }
     ensures left { s.new ≡ slot_after j s.old allowance }
 {
@@ -92,11 +92,9 @@ pub extern "C" fn s2xv2_step(j: Job, s: &mut [u8], allowance: usize) -> PlainSte
     let d = j.descriptor_size;
     let k = j.stores_made;
     let m = advanced(&j.staged, n, d, k, s, allowance);
+    j.stores_made = m.made;
     PlainStepped {
-        job: Job {
-            stores_made: m.made,
-            ..j
-        },
+        job: j,
         told: m.told,
     }
 }

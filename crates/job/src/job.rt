@@ -1,6 +1,6 @@
 // A job, and its step.
 ghost use Rattle.std.specs.Prelude.{◌≡◌, length};
-ghost use Rattle.job.specs.Step.{step_seen, step_of, slot_after};
+ghost use Rattle.job.specs.Step.{step_seen, step_made, step_done, step_of, slot_after};
 
 use crate::advance::{Moved, advance};
 
@@ -35,6 +35,19 @@ pub struct Stepped {
     // The job after the step.
     pub job: Job,
     pub answer: Result<Advanced, OtherSize>,
+}
+
+// What an answer of a step tells: no store and not done where it is refused.
+pub fn advanced_in(answer: Result<Advanced, OtherSize>) -> Advanced
+    ensures { result ≡ record { stores = step_made answer; done = step_done answer } }
+{
+    match answer {
+        Ok(advanced) => advanced,
+        Err(_) => Advanced {
+            stores: 0,
+            done: false,
+        },
+    }
 }
 
 impl Job {

@@ -101,7 +101,8 @@ impl<'a> Next<'a> {
     // Makes the job's next `count` stores, one call of `make_store` each.
     pub(crate) fn make_stores(&mut self, slot: &mut [u8], count: usize)
         requires { (self.old.stores_made + count ≤ self.old.slot_size + 2) × (length slot.old ≡ self.old.slot_size) }
-        ensures { slot.new ≡ run (next_stores self.old count) slot.old }
+        ensures job { self.new ≡ advanced self.old count }
+        ensures slot { slot.new ≡ run (next_stores self.old count) slot.old }
     {
         for _ in 0..count {
             self.make_store(slot);

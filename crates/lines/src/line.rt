@@ -43,8 +43,9 @@ impl Number for u64 {
 impl Number for bool {
     ghost number_of = { bit };
 
+    // As the byte that it is, 1 or 0.
     fn to_u64(self) -> u64 {
-        u64::from(self)
+        u8::from(self).to_u64()
     }
 }
 

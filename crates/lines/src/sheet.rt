@@ -22,6 +22,14 @@ impl<'a> Sheet<'a> {
         Sheet { out, at: 0 }
     }
 
+    // A sheet that is filled from a place on. That may lie behind the buffer's end: nothing is put then, and the place stays.
+    pub fn from_place(out: &'a mut [u8], at: usize) -> Self
+        ensures same { buffer_of result ≡ out.entry.ghost_name }
+        ensures start { out_of result ≡ out.old from at }
+    {
+        Sheet { out, at }
+    }
+
     // The place behind what was put.
     pub fn at(&self) -> usize
         ensures { result ≡ (out_of self.now).at }

@@ -5,9 +5,8 @@ use crate::made::record;
 use crate::shown::put_record;
 use crate::told::{Answer, low, put_answer};
 use crate::values::Case;
-use answers::answer::Refusal;
 use s2xv2::record::S2Xv2SatelliteDeliverySystem;
-use s2xv2_reader::Parsed;
+use s2xv2_reader::shown_record;
 use std::io;
 
 // What a case leaves: the digest after it, and its answer.
@@ -22,14 +21,6 @@ pub(crate) fn first(bytes: &[u8], n: usize) -> &[u8] {
     &bytes[..n.min(bytes.len())]
 }
 
-// The record that the reader shows: the default one for a body that is refused.
-fn shown(parsed: Result<Parsed, Refusal>) -> S2Xv2SatelliteDeliverySystem {
-    match parsed {
-        Ok(parsed) => parsed.body,
-        Err(_) => S2Xv2SatelliteDeliverySystem::default(),
-    }
-}
-
 // The tail: its length and its bytes.
 fn put_tail(rt: &impl Print, d: Digest, tail: &[u8]) -> io::Result<Digest> {
     let d = d.put(rt, low(tail.len()))?;
@@ -41,14 +32,14 @@ fn put_reading(rt: &impl Print, d: Digest, body: &[u8]) -> io::Result<Ran> {
     let parsed = s2xv2_reader::parse(body);
     let answer = parsed.map(|parsed| parsed.tail_start);
     let d = put_answer(rt, d, answer)?;
-    let d = put_record(rt, d, &shown(parsed))?;
+    let d = put_record(rt, d, &shown_record(parsed))?;
     let digest = put_tail(rt, d, s2xv2_reader::reserved_tail(body))?;
     Ok(Ran { digest, answer })
 }
 
 // What was read is written back: the answer of that, and the buffer.
 fn put_back(rt: &impl Print, d: Digest, body: &[u8], out: &mut [u8]) -> io::Result<Digest> {
-    let record = shown(s2xv2_reader::parse(body));
+    let record = shown_record(s2xv2_reader::parse(body));
     let tail = s2xv2_reader::reserved_tail(body);
     out.fill(165);
     let d = put_answer(rt, d, s2xv2_writer::serialize_into(record, tail, out))?;

@@ -9,12 +9,9 @@ use std::io;
 // What begin answers: how many stores the job makes.
 pub(crate) type Answer = Result<usize, Refusal>;
 
-// What begin answers, and its job: that which no step takes where it refuses.
+// What begin answers, and the job that it gives.
 pub(crate) fn parted(begun: Result<Begun, Refusal>) -> (Answer, Job) {
-    match begun {
-        Ok(Begun { stores, job }) => (Ok(stores), job),
-        Err(why) => (Err(why), begin::no_job()),
-    }
+    (begun.map(|begun| begun.stores), begin::job_in(begun))
 }
 
 // What begin answers for the default record with a tail.

@@ -1,7 +1,7 @@
 // What is printed.
 use crate::again::Answer;
 use answers::answer::Refusal;
-use job::job::{Advanced, Job, OtherSize};
+use job::job::{Advanced, Job, OtherSize, advanced_in};
 use std::io;
 
 // Prints a refusal: its number, and what it tells.
@@ -31,18 +31,10 @@ pub(crate) fn reading(rt: &impl Print, slot: &[u8]) -> io::Result<()> {
     }
 }
 
-// What a step answers: its number, and what it tells, nothing made and nothing done where it is refused.
+// What a step answers: its number, and what it tells.
 pub(crate) fn step_told(answer: Result<Advanced, OtherSize>) -> (u32, Advanced) {
-    match answer {
-        Ok(advanced) => (0, advanced),
-        Err(OtherSize) => (
-            8,
-            Advanced {
-                stores: 0,
-                done: false,
-            },
-        ),
-    }
+    let number = if answer.is_ok() { 0 } else { 8 };
+    (number, advanced_in(answer))
 }
 
 // Steps a job to its end, and prints what the step answers: its number, the stores made, and whether the job is done.

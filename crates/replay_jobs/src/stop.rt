@@ -9,14 +9,10 @@ use answers::answer::Refusal;
 use begin::Begun;
 use job::job::{Advanced, Job, OtherSize};
 use lines::digest::{put, put_bytes};
-use s2xv2::record::S2Xv2SatelliteDeliverySystem;
 
 // What begin answers for the record and tail of a body: the default record for one that is refused.
 pub(crate) fn begun(slot: &[u8], body: &[u8]) -> Result<Begun, Refusal> {
-    let record = match s2xv2_reader::parse(body) {
-        Ok(parsed) => parsed.body,
-        Err(_) => S2Xv2SatelliteDeliverySystem::default(),
-    };
+    let record = s2xv2_reader::shown_record(s2xv2_reader::parse(body));
     begin::begin(slot, record, s2xv2_reader::reserved_tail(body))
 }
 

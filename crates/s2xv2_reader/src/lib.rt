@@ -77,6 +77,16 @@ pub fn parse(sel: &[u8]) -> Result<Parsed, Refusal>
     })
 }
 
+// The record that an answer of `parse` shows: the default one for a body that is refused.
+pub fn shown_record(parsed: Result<Parsed, Refusal>) -> S2Xv2SatelliteDeliverySystem
+    ensures { result ≡ (seen parsed).body }
+{
+    match parsed {
+        Ok(parsed) => parsed.body,
+        Err(_) => S2Xv2SatelliteDeliverySystem::default(),
+    }
+}
+
 // What `parse` answers for the body `sel`, without the record.
 pub fn parse_answer(sel: &[u8]) -> Result<usize, Refusal>
     ensures { told result ≡ read_told sel.now }

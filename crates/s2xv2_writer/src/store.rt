@@ -19,8 +19,8 @@ pub(crate) fn copy(buf: &mut [u8], p: usize, t: &[u8])
     buf[p..p + t.len()].copy_from_slice(t);
 }
 
-// All of `t`, byte by byte.
-fn put_few(buf: &mut [u8], p: usize, t: &[u8])
+// All of `t`, byte by byte: for a long one the compiler makes that 32 bytes at a time.
+fn put_bytes(buf: &mut [u8], p: usize, t: &[u8])
     requires { p + length t.now ≤ length buf.old }
     ensures { buf.new ≡ stored_from buf.old p t.now }
 {
@@ -38,19 +38,20 @@ fn put_four(buf: &mut [u8], p: usize, t: &[u8], i: usize)
     copy(buf, p + i, &a);
 }
 
-// All of `t`, which is mostly short: of four to eight bytes the first four and the last four, which may be some of the same. `copy` alone is a call of memmove
-// here: some 30 instructions more for a record of about 210.
+// All of `t`, which is mostly short: of four to eight bytes the first four and the last four, which may be some of the same. Not by `copy`, which is a call of
+// memmove for a length that is not known: the archive for C asks for no such name, and with a tail of up to eight bytes a record would take some 30
+// instructions more, of about 210. Fewer than four bytes are an arm of their own, for which the compiler makes no long loop.
 pub(crate) fn put_tail(buf: &mut [u8], p: usize, t: &[u8])
     requires { p + length t.now ≤ length buf.old }
     ensures { buf.new ≡ stored_from buf.old p t.now }
 {
     let n = t.len();
     if n < 4 {
-        put_few(buf, p, t);
+        put_bytes(buf, p, t);
     } else if n <= 8 {
         put_four(buf, p, t, 0);
         put_four(buf, p, t, n - 4);
     } else {
-        copy(buf, p, t);
+        put_bytes(buf, p, t);
     }
 }

@@ -44,12 +44,9 @@ fn record(x: u8) -> S2Xv2SatelliteDeliverySystem {
     }
 }
 
-// The job that stores a record with its tail in the slot: the job of all 0 where `begin` refuses.
+// The job that stores a record with its tail in the slot: the job of zeros where `begin` refuses.
 fn begun(s: &[u8], r: S2Xv2SatelliteDeliverySystem, tail: &[u8]) -> Job {
-    match begin::begin(s, r, tail) {
-        Ok(begun) => begun.job,
-        Err(_) => begin::no_job(),
-    }
+    begin::job_in(begin::begin(s, r, tail))
 }
 
 // Stores one record in an empty slot, and then another over it, one store at a time.

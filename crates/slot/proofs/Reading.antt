@@ -88,7 +88,7 @@ module _ (s : List ℕ) (a : ℕ) (f : form_of s ≡ F.Ours a) where
     holds-body = ap (λ (x : Shown). x.reading.body) shows-body
 
 -- a refused body is told as the reader tells it
-placed-refused : (a size : ℕ) (why : Refusal) → numbers why ≡ placed a size (numbers why)
+pub placed-refused : (a size : ℕ) (why : Refusal) → numbers why ≡ placed a size (numbers why)
 placed-refused a size why = rw (refused-number why)
 
 -- the tail of a body that is accepted starts inside it

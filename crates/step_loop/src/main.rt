@@ -30,12 +30,9 @@ fn tell(rt: &impl Print, s: &[u8]) -> io::Result<()> {
     }
 }
 
-// The job that stores the default record in the slot: the job of all 0 where `begin` refuses.
+// The job that stores the default record in the slot: the job of zeros where `begin` refuses.
 fn begun(s: &[u8]) -> Job {
-    match begin::begin(s, S2Xv2SatelliteDeliverySystem::default(), &[]) {
-        Ok(begun) => begun.job,
-        Err(_) => begin::no_job(),
-    }
+    begin::job_in(begin::begin(s, S2Xv2SatelliteDeliverySystem::default(), &[]))
 }
 
 // Begins a job on an empty slot, runs it as often as there is input, and tells what the slot holds.

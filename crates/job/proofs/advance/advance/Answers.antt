@@ -36,5 +36,5 @@ returns c =
     let k = c.min-count.ensures in
     record {
       told = A.accepted j a.slot.now a.allowance f k;
-      left = A.accepted-slot j a.slot.now a.allowance f k (c.make_stores.ensures ∙ rw c.new.ensures refl);
+      left = A.accepted-slot j a.slot.now a.allowance f k (c.make_stores.ensures.slot ∙ rw c.new.ensures refl);
     }

@@ -1,4 +1,4 @@
--- `s2xv2_writer::store::put_few` meets its contract: each turn is one store more.
+-- `s2xv2_writer::store::put_bytes` meets its contract: each turn is one store more.
 -- Assumes nothing.
 use mathlib.Core.Path.{refl, ap, ◌∙◌}
 use mathlib.Core.List.{List}
@@ -7,7 +7,7 @@ use native.Mathlib.Omega.{arith}
 use lib.ListN.{set, get_or}
 use Rattle.wire.specs.Store.{stored_from}
 use Rattle.wire.proofs.Stores.{stored_more}
-use Rattle.s2xv2_writer.proofs.store.put_few.Goals as goal
+use Rattle.s2xv2_writer.proofs.store.put_bytes.Goals as goal
 
 pub loop-i-init : goal.loop-i-init
 unfolding stored_from
